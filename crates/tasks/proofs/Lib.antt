@@ -1,0 +1,6 @@
+pub mod Saturating
+pub mod Bounded
+pub mod Lawful
+pub mod Running
+pub mod Checking
+pub mod CostAlgebras

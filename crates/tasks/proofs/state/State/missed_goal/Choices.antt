@@ -1,0 +1,7 @@
+use mathlib.Core.Path.{_≡_}
+use Rattle.std.specs.declared.option.Option.the-variants.{None}
+use Rattle.tasks.specs.Plans.{first-failing, agrees, held}
+use Rattle.tasks.proofs.state.State.missed_goal.Given as given
+
+abbrev pub Inv-loop-v : given.InvT-loop-v
+Inv-loop-v g l = first-failing (l .v) (λ v. agrees (g .T·Task .meant (l .task) .goal v) (held (l .self) v)) ≡ None

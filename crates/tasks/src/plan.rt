@@ -1,0 +1,54 @@
+// Checking a plan, and what it costs.
+ghost use mathlib.Core.Path.{_≡_};
+ghost use Rattle.tasks.specs.Task.{priced};
+ghost use Rattle.tasks.specs.Plans.{answered, checked};
+ghost use Rattle.tasks.specs.Runs.{Run-decides};
+ghost use Rattle.tasks.specs.Totals.{total as totalOf, checked-total};
+use crate::measure::Measure;
+use crate::refusal::Cause;
+use crate::refusal::Refusal;
+use crate::state::State;
+use crate::task::Priced;
+use crate::task::Task;
+
+// Runs the plan, each action in turn: refused at the index of the first that cannot run, then at the lowest variable
+// whose goal is missed; otherwise the state at the end.
+pub fn check<T: Task>(task: &T, plan: &[u16]) -> Result<State, Refusal>
+    ensures result { λ r. ⌜ answered r ≡ checked (meant (now (task .entry))) (now (plan .entry)) ⌝ }
+    ensures law { λ r. ⌜ Run-decides (meant (now (task .entry))) (now (plan .entry)) (answered r) ⌝ }
+{
+    let mut state = State::initial(task);
+    for (place, action) in plan.iter().enumerate() {
+        if !state.can_run(task, *action) {
+            let cause = Cause::CannotRun;
+            return Err(Refusal { cause, place });
+        }
+        state.run(task, *action);
+    }
+    match state.missed_goal(task) {
+        Some(variable) => Err(Refusal {
+            cause: Cause::GoalMissed,
+            place: usize::from(variable),
+        }),
+        None => Ok(state),
+    }
+}
+
+// The weights of the actions, joined. The list need not be a plan.
+pub fn total<T: Priced, M: Measure>(task: &T, plan: &[u16]) -> M::Total
+    ensures { λ r. ⌜ r ≡ totalOf (M·Measure .scale) (priced (T·Task .meant (now (task .entry))) (T·Priced .tariff (now (task .entry)))) (now (plan .entry)) ⌝ }
+{
+    let mut sum = M::nothing();
+    for action in plan {
+        sum = M::join(sum, M::weight(task.price(*action)));
+    }
+    sum
+}
+
+// Refused as `check` refuses; otherwise the total of the plan.
+pub fn check_total<T: Priced, M: Measure>(task: &T, plan: &[u16]) -> Result<M::Total, Refusal>
+    ensures { λ r. ⌜ r ≡ checked-total (M·Measure .scale) (priced (T·Task .meant (now (task .entry))) (T·Priced .tariff (now (task .entry)))) (now (plan .entry)) ⌝ }
+{
+    check(task, plan)?;
+    Ok(total::<T, M>(task, plan))
+}
