@@ -1,5 +1,5 @@
 -- Tests of every number below a bound, read as facts.
-use mathlib.Core.Path.{_≡_, refl, sym, ap, subst, _∙_}
+use mathlib.Core.Path.{_≡_, refl, sym, subst, _∙_}
 use mathlib.Core.Logic.{⊎-elim}
 use mathlib.Core.Bool.{Bool, true, false, cond, _&&_}
 use Prim.Native.Nat.{ℕ, zero, suc, _+_, _≤_, _<_}
@@ -7,8 +7,9 @@ use native.Mathlib.Numerals.{add-one}
 use native.Mathlib.Omega.{arith}
 use Rattle.std.specs.declared.option.Option.{Option}
 use Rattle.std.specs.declared.option.Option.the-variants.{Some, None}
-use Rattle.std.proofs.shelf.Tests.{both-ways, and-parts, and-from, and-left, and-right, cases-eq}
-use Rattle.tasks.specs.Plans.{all-below, first-failing}
+use Rattle.std.proofs.shelf.Tests.{and-parts, and-from, and-left, and-right, cases-eq, cases-bool, cond-true, cond-false}
+use Rattle.tasks.specs.Bounds.{all-below, first-failing}
+use Rattle.tasks.proofs.Firsts.{none-at, none-from, none-more, some-at}
 
 pub below-at : (n : ℕ) (p : ℕ → Bool) → all-below n p ≡ true → (v : ℕ) → v < n → p v ≡ true
 below-at zero p h v l = absurd (omega arith)
@@ -32,40 +33,27 @@ below-fails (suc n) p v l e =
 pub below-more : (n : ℕ) (p : ℕ → Bool) → all-below n p ≡ true → p n ≡ true → all-below (n + 1) p ≡ true
 below-more n p h e = subst (λ (k : ℕ). all-below k p ≡ true) (sym (add-one n)) (and-from (all-below n p) (p n) h e)
 
--- how `first-failing` goes on past n, by what it found below n and the test at n
-pick : Option ℕ → Bool → ℕ → Option ℕ
-pick o b n = elim o [ Some v ↦ Some v | None ↦ cond b None (Some n) ]
+-- the lowest number that fails, as a loop finds it
+module _ (p : ℕ → Bool) where
+  found : ℕ → Option ℕ
+  found k = cond (p k) None (Some k)
 
-pub passing-more : (n : ℕ) (p : ℕ → Bool) → first-failing n p ≡ None → p n ≡ true → first-failing (n + 1) p ≡ None
-unfolding pick
-passing-more n p h e =
-    ap (λ (k : ℕ). first-failing k p) (add-one n) ∙ ap (λ (o : Option ℕ). pick o (p n) n) h ∙ ap (λ (b : Bool). pick None b n) e
+  pub passing-more : (n : ℕ) → first-failing n p ≡ None → p n ≡ true → first-failing (n + 1) p ≡ None
+  unfolding found
+  passing-more n h e = none-more n found h (cond-true (p n) None (Some n) e)
 
-fails-next : (n : ℕ) (p : ℕ → Bool) → first-failing n p ≡ None → p n ≡ false → first-failing (suc n) p ≡ Some n
-unfolding pick
-fails-next n p h e = ap (λ (o : Option ℕ). pick o (p n) n) h ∙ ap (λ (b : Bool). pick None b n) e
+  pub fails-at : (n k : ℕ) → k < n → first-failing k p ≡ None → p k ≡ false → first-failing n p ≡ Some k
+  unfolding found
+  fails-at n k l h e = some-at n k found k l h (cond-false (p k) None (Some k) e)
 
-pub fails-at : (n : ℕ) (p : ℕ → Bool) (v : ℕ) → v < n → first-failing v p ≡ None → p v ≡ false → first-failing n p ≡ Some v
-unfolding pick
-fails-at zero p v l h e = absurd (omega arith)
-fails-at (suc n) p v l h e =
-    ⊎-elim
-    (λ same. subst (λ (k : ℕ). first-failing (suc n) p ≡ Some k) (sym same) (fails-next n p (subst (λ (k : ℕ). first-failing k p ≡ None) same h) (subst (λ (k : ℕ). p k ≡ false) same e)))
-    (λ apart. ap (λ (o : Option ℕ). pick o (p n) n) (fails-at n p v (omega arith) h e))
-    (cases-eq v n)
+  -- none fails exactly when the test of all passes
+  pub passing-from : (n : ℕ) → all-below n p ≡ true → first-failing n p ≡ None
+  unfolding found
+  passing-from n h = none-from n found (λ k l. cond-true (p k) None (Some k) (below-at n p h k l))
 
--- nothing fails below n exactly when the test of all passes
-pub passing-from : (n : ℕ) (p : ℕ → Bool) → all-below n p ≡ true → first-failing n p ≡ None
-passing-from zero p h = refl
-passing-from (suc n) p h =
-    let both = and-parts (all-below n p) (p n) h in
-    sym (ap (λ (k : ℕ). first-failing k p) (add-one n)) ∙ passing-more n p (passing-from n p (both .0)) (both .1)
-
-pub passing-at : (n : ℕ) (p : ℕ → Bool) → first-failing n p ≡ None → all-below n p ≡ true
-passing-at zero p h = refl
-passing-at (suc n) p h = go (first-failing n p) (p n) h (passing-at n p)
-  where
-    go : (o : Option ℕ) (b : Bool) → _≡_ {A = Option ℕ} (elim o [ Some v ↦ Some v | None ↦ cond b None (Some n) ]) None → (o ≡ None → all-below n p ≡ true) → (all-below n p && b) ≡ true
-    go None true e more = and-from (all-below n p) true (more refl) refl
-    go None false e more = let z : _≡_ {A = ℕ} 0 1 = cc in absurd (omega arith)
-    go (Some v) b e more = let z : _≡_ {A = ℕ} 0 1 = cc in absurd (omega arith)
+  pub passing-at : (n : ℕ) → first-failing n p ≡ None → (k : ℕ) → k < n → p k ≡ true
+  unfolding found
+  passing-at n h k l = ⊎-elim (λ e. e) (λ e. never (sym (cond-false (p k) None (Some k) e) ∙ none-at n found h k l)) (cases-bool (p k))
+    where
+      never : {A : Type 0} → _≡_ {A = Option ℕ} (Some k) None → A
+      never e = let z : _≡_ {A = ℕ} 0 1 = cc in absurd (omega arith)

@@ -19,7 +19,7 @@ use Rattle.tasks.specs.declared.refusal.Refusal.{Refusal}
 use Rattle.tasks.specs.Task.{Task, Lawful}
 use Rattle.tasks.specs.Plans.{State, agrees, over, can-run, after, run, met, ends-well, is-plan, missed-goal, ended, checked-from, checked}
 use Rattle.tasks.specs.Runs.{Same-live, Live-values, Meets, Can-run, Effect, state-at, Run-from, Run, Run-decides}
-use Rattle.tasks.proofs.Bounded.{passing-at, passing-from}
+use Rattle.tasks.proofs.Bounded.{below-from, passing-at, passing-from}
 use Rattle.tasks.proofs.Lawful.{over-some, over-none, some-or-none, can-run-at, can-run-from, met-at, met-from}
 use Rattle.tasks.proofs.Running.{live-init, live-after}
 
@@ -74,9 +74,11 @@ module _ (t : Task) (law : Lawful t) where
       values : (i : ℕ) → i < suc (length states) → Live-values t (state-at (s ∷ states) i)
       values zero l = live
       values (suc i) l = h .values i (omega arith)
+
       can : (i : ℕ) → i < suc (length plan) → Can-run t (state-at (s ∷ states) i) (getD (a ∷ plan) i 0)
       can zero l = runs
       can (suc i) l = h .runs i (omega arith)
+
       moves : (i : ℕ) → i < suc (length plan) → Effect t (state-at (s ∷ states) i) (getD (a ∷ plan) i 0) (state-at states i)
       moves zero l = effect-from s a (state-at states 0) (h .starts)
       moves (suc i) l = h .moves i (omega arith)
@@ -88,8 +90,7 @@ module _ (t : Task) (law : Lawful t) where
   run-of : (plan : List ℕ) (s u : State) (i : ℕ) → Live-values t s → checked-from t s i plan ≡ Ok u → Ran s plan u
   unfolding Ran
   run-of [] s u i live e =
-      let both = ended-ok s u (missed-goal t s) e in
-      (
+      let both = ended-ok s u (missed-goal t s) e in (
         s ∷ [],
         record {
           one-more = refl;
@@ -97,7 +98,7 @@ module _ (t : Task) (law : Lawful t) where
           values = only;
           runs = λ k l. absurd (omega arith);
           moves = λ k l. absurd (omega arith);
-          goals = met-at t law s (passing-at (t .vars) (λ v. agrees (t .goal v) (s v)) (both .0));
+          goals = met-at t law s (below-from (t .vars) (λ v. agrees (t .goal v) (s v)) (passing-at (λ v. agrees (t .goal v) (s v)) (t .vars) (both .0)));
         },
         λ v l. sym (ap (λ (k : State). k v) (both .1)),
       )
@@ -117,7 +118,7 @@ module _ (t : Task) (law : Lawful t) where
   accepted-of : (plan : List ℕ) (states : List State) (s : State) (i : ℕ) → Run-from t s plan states → isOk (checked-from t s i plan) ≡ true
   accepted-of [] states s i h =
       let goals = meets-same (state-at states 0) s (t .goal) (law .goal-val) (h .starts) (h .goals) in
-      ap (λ (o : Option ℕ). isOk (ended s o)) (passing-from (t .vars) (λ v. agrees (t .goal v) (s v)) (met-from t s goals))
+      ap (λ (o : Option ℕ). isOk (ended s o)) (passing-from (λ v. agrees (t .goal v) (s v)) (t .vars) (met-from t s goals))
   accepted-of (a ∷ rest) [] s i h = let e = h .one-more in absurd (omega arith)
   accepted-of (a ∷ rest) (u ∷ us) s i h =
       let first = h .runs 0 (omega arith) in
@@ -144,11 +145,11 @@ pub accepted-is-plan : (t : Task) (list : List ℕ) (s : State) (i : ℕ) → is
 accepted-is-plan t [] s i = go (met t s) refl
   where
     go : (b : Bool) → met t s ≡ b → isOk (ended s (missed-goal t s)) ≡ met t s
-    go true e = ap (λ (o : Option ℕ). isOk (ended s o)) (passing-from (t .vars) (λ v. agrees (t .goal v) (s v)) e) ∙ sym e
+    go true e = ap (λ (o : Option ℕ). isOk (ended s o)) (passing-from (λ v. agrees (t .goal v) (s v)) (t .vars) e) ∙ sym e
     go false e = fails (missed-goal t s) refl
       where
         fails : (o : Option ℕ) → missed-goal t s ≡ o → isOk (ended s (missed-goal t s)) ≡ met t s
-        fails None q = absurd (both-ways (met t s) e (passing-at (t .vars) (λ v. agrees (t .goal v) (s v)) q))
+        fails None q = absurd (both-ways (met t s) e (below-from (t .vars) (λ v. agrees (t .goal v) (s v)) (passing-at (λ v. agrees (t .goal v) (s v)) (t .vars) q)))
         fails (Some v) q = ap (λ (o : Option ℕ). isOk (ended s o)) q ∙ sym e
 accepted-is-plan t (a ∷ rest) s i = go (can-run t s a) (accepted-is-plan t rest (after t s a) (suc i))
   where

@@ -7,8 +7,9 @@ use native.Mathlib.Omega.{arith}
 use Rattle.std.specs.declared.option.Option.{Option}
 use Rattle.std.specs.declared.option.Option.the-variants.{Some, None}
 use Rattle.std.proofs.shelf.Tests.{eqb-true, eq-eqb, ne-eqb, and-parts, and-from, and-right, cases-bool, cases-lt}
+use Rattle.tasks.specs.Bounds.{all-below}
 use Rattle.tasks.specs.Task.{Task, Lawful}
-use Rattle.tasks.specs.Plans.{State, all-below, agrees, over, can-run, after, met}
+use Rattle.tasks.specs.Plans.{State, agrees, over, can-run, after, met}
 use Rattle.tasks.specs.Runs.{Meets, Can-run}
 use Rattle.tasks.proofs.Bounded.{below-at, below-from, below-fails}
 

@@ -1,4 +1,5 @@
 pub mod Saturating
+pub mod Firsts
 pub mod Bounded
 pub mod Lawful
 pub mod Running

@@ -1,4 +1,5 @@
 pub mod Refusals
+pub mod Bounds
 pub mod Task
 pub mod Plans
 pub mod Runs

@@ -1,8 +1,8 @@
 -- What it is to run actions, and what a plan is.
 use mathlib.Core.Path.{_≡_}
-use mathlib.Core.Bool.{Bool, true, false, cond, _&&_}
+use mathlib.Core.Bool.{Bool, true, false, _&&_}
 use mathlib.Core.List.{List, [], _∷_}
-use Prim.Native.Nat.{ℕ, zero, suc}
+use Prim.Native.Nat.{ℕ, suc}
 use lib.Dec.{eqb}
 use lib.ListN.{getD}
 use Rattle.std.specs.declared.option.Option.{Option}
@@ -12,17 +12,8 @@ use Rattle.std.specs.declared.result.Result.the-variants.{Ok, Err}
 use Rattle.tasks.specs.declared.refusal.Cause.the-variants.{CannotRun, GoalMissed}
 use Rattle.tasks.specs.declared.refusal.Refusal.{Refusal}
 use Rattle.tasks.specs.declared.state.State.{State as Values}
+use Rattle.tasks.specs.Bounds.{all-below, first-failing}
 use Rattle.tasks.specs.Task.{Task}
-
--- a test of every number below n
-abbrev pub all-below : ℕ → (ℕ → Bool) → Bool
-all-below zero p = true
-all-below (suc n) p = all-below n p && p n
-
--- the lowest number below n that fails the test
-abbrev pub first-failing : ℕ → (ℕ → Bool) → Option ℕ
-first-failing zero p = None
-first-failing (suc n) p = elim (first-failing n p) [ Some v ↦ Some v | None ↦ cond (p n) None (Some n) ]
 
 -- x is the value asked for, if one is
 abbrev pub agrees : Option ℕ → ℕ → Bool

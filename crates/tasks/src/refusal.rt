@@ -70,10 +70,27 @@ impl Cause {
         ensures { λ r. ⌜ now r ≡ wordOf (layerOf self) ⌝ }
     {
         match self {
-            Cause::FileLength | Cause::Layout | Cause::Counts | Cause::SpareBit | Cause::CutShort | Cause::ValueRange | Cause::VariableOrder | Cause::LeftOver => "file",
-            Cause::FloorSides | Cause::PointCount | Cause::PriceCount | Cause::CellClosed => "floor",
-            Cause::PileFull | Cause::NotLive | Cause::MergeUnfit | Cause::GeneraliseUnfit | Cause::VariableUnfit | Cause::ListUnfit | Cause::ActionUnfit | Cause::AbstractUnfit | Cause::NoStep => "pile",
-            Cause::BufferSizes | Cause::CannotRun | Cause::GoalMissed | Cause::BufferShort => "plan",
+            Cause::FileLength
+            | Cause::Layout
+            | Cause::Counts
+            | Cause::SpareBit
+            | Cause::CutShort
+            | Cause::ValueRange
+            | Cause::VariableOrder
+            | Cause::LeftOver => "file",
+            Cause::FloorSides | Cause::PointCount | Cause::PriceCount | Cause::CellClosed =>
+                "floor",
+            Cause::PileFull
+            | Cause::NotLive
+            | Cause::MergeUnfit
+            | Cause::GeneraliseUnfit
+            | Cause::VariableUnfit
+            | Cause::ListUnfit
+            | Cause::ActionUnfit
+            | Cause::AbstractUnfit
+            | Cause::NoStep => "pile",
+            Cause::BufferSizes | Cause::CannotRun | Cause::GoalMissed | Cause::BufferShort =>
+                "plan",
             Cause::PlanFile => "program",
         }
     }

@@ -25,7 +25,11 @@ impl State {
     pub fn value(&self, variable: u8) -> u8
         ensures { λ r. ⌜ r ≡ held (now (self .entry)) variable ⌝ }
     {
-        if variable < 32 { self.values[variable as usize] } else { 0 }
+        if variable < 32 {
+            self.values[variable as usize]
+        } else {
+            0
+        }
     }
 
     // Whether a variable has the value asked for, if one is.

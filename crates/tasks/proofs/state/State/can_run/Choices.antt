@@ -1,6 +1,7 @@
 use mathlib.Core.Path.{_≡_}
 use mathlib.Core.Bool.{true}
-use Rattle.tasks.specs.Plans.{all-below, agrees, held}
+use Rattle.tasks.specs.Plans.{agrees, held}
+use Rattle.tasks.specs.Bounds.{all-below}
 use Rattle.tasks.proofs.state.State.can_run.Given as given
 
 abbrev pub Inv-loop-v : given.InvT-loop-v

@@ -10,12 +10,11 @@ use Rattle.tasks.proofs.state.State.initial.Needs as need
 
 pub loop-v-again : need.loop-v-again
 loop-v-again g c =
-    let inv = c .loop-v .inv in
-    (
+    let inv = c .loop-v .inv in (
       length-set (c .loop-v .values) (c .loop-v .v) (c .initial .result) ∙ inv .0,
       below-more _ _
-      (λ k h. getD-set-other (c .loop-v .values) (c .loop-v .v) k (c .initial .result) 0 (λ e. omega arith) ∙ inv .1 k h)
-      (getD-set-same (c .loop-v .values) (c .loop-v .v) (c .initial .result) 0 (omega arith) ∙ c .initial .ensures),
+          (λ k h. getD-set-other (c .loop-v .values) (c .loop-v .v) k (c .initial .result) 0 (λ e. omega arith) ∙ inv .1 k h)
+          (getD-set-same (c .loop-v .values) (c .loop-v .v) (c .initial .result) 0 (omega arith) ∙ c .initial .ensures),
     )
 
 pub returns : need.returns

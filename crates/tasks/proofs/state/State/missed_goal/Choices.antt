@@ -1,6 +1,7 @@
 use mathlib.Core.Path.{_≡_}
 use Rattle.std.specs.declared.option.Option.the-variants.{None}
-use Rattle.tasks.specs.Plans.{first-failing, agrees, held}
+use Rattle.tasks.specs.Plans.{agrees, held}
+use Rattle.tasks.specs.Bounds.{first-failing}
 use Rattle.tasks.proofs.state.State.missed_goal.Given as given
 
 abbrev pub Inv-loop-v : given.InvT-loop-v

@@ -1,0 +1,5 @@
+pub mod Cells
+pub mod Accepting
+pub mod Sharing
+pub mod Doing
+pub mod Upholding

@@ -1,0 +1,11 @@
+pub mod Unless
+pub mod Accepted
+pub mod LawfulFile
+pub mod Scanning
+pub mod Lookups
+pub mod Words
+pub mod Turns
+pub mod Unpacking
+pub mod Standing
+pub mod Repacking
+pub mod PackingLaw
