@@ -1,3 +1,4 @@
 pub mod Jobs
 pub mod Outcomes
 pub mod Texts
+pub mod JobLaw

@@ -5,6 +5,7 @@ ghost use lib.ListN.{length};
 ghost use Rattle.std.specs.Of.Vec.{vec-items};
 ghost use Rattle.job.specs.declared.Failure.the-variants.{Refused as RefusedBy, NoMemory as Memory};
 ghost use Rattle.job.specs.Jobs.{job as due, plan-read};
+ghost use Rattle.job.specs.JobLaw.{Job-decides};
 ghost use Rattle.job.specs.Texts.{report-text};
 ghost use Rattle.std.specs.declared.option.Option.the-variants.{Some};
 ghost use Rattle.job.specs.Outcomes.{Comes-to, actions-in, reported};
@@ -93,7 +94,8 @@ fn read_plan(heap: Global, bytes: &[u8]) -> Result<Vec<u16>, Failure>
 
 // Opens the task, reads the plan and checks it on the task.
 pub fn run(heap: Global, task: Vec<u8>, plan: &[u8]) -> Result<Report, Failure>
-    ensures { λ r. ⌜ Comes-to reported r (due (vec-items task) (now (plan .entry))) ⌝ }
+    ensures result { λ r. ⌜ Comes-to reported r (due (vec-items task) (now (plan .entry))) ⌝ }
+    ensures law { λ _. ⌜ Job-decides (vec-items task) (now (plan .entry)) (due (vec-items task) (now (plan .entry))) ⌝ }
 {
     let file = File::open(task)?;
     let plan = read_plan(heap, plan)?;
