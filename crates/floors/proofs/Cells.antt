@@ -1,6 +1,6 @@
 -- The sides of a floor, its cells, and which of them are open.
 use mathlib.Core.Path.{_≡_, refl, sym, ap, subst, _∙_}
-use mathlib.Core.Bool.{Bool, true, false, _&&_}
+use mathlib.Core.Bool.{true, false, _&&_}
 use mathlib.Core.List.{List}
 use Prim.Native.Nat.{ℕ, suc, _+_, _/_, _^_, _%_, _≤_, _<_}
 use native.Mathlib.Numerals.{add-one}
@@ -10,7 +10,6 @@ use lib.Dec.{eqb, ltb, leb}
 use lib.ListN.{length, getD}
 use Rattle.std.proofs.shelf.Bits.{and-mask, mul-le}
 use Rattle.std.proofs.shelf.Tests.{and-parts, leb-true, ltb-true, lt-ltb}
-use Rattle.std.specs.declared.option.Option.{Option}
 use Rattle.std.specs.declared.option.Option.the-variants.{Some, None}
 use Rattle.tasks.specs.Bounds.{first-failing}
 use Rattle.tasks.proofs.Bounded.{passing-more, fails-at}

@@ -1,5 +1,5 @@
 -- The job gives a report exactly when a plan works.
-use mathlib.Core.Path.{_≡_, refl, sym, ap, subst, _∙_}
+use mathlib.Core.Path.{_≡_, refl, sym, subst, _∙_}
 use mathlib.Core.List.{List}
 use Prim.Native.Nat.{ℕ, _<_}
 use native.Mathlib.Omega.{arith}
@@ -7,16 +7,16 @@ use lib.ListN.{getD}
 use Rattle.std.specs.declared.result.Result.{Result}
 use Rattle.std.specs.declared.result.Result.the-variants.{Ok, Err}
 use Rattle.tasks.specs.declared.refusal.Refusal.{Refusal}
-use Rattle.tasks.specs.Task.{Priced, Lawful}
+use Rattle.tasks.specs.Task.{Priced}
 use Rattle.tasks.specs.Plans.{State, checked}
 use Rattle.tasks.specs.Runs.{Run, Run-decides}
 use Rattle.tasks.specs.Measures.{charge}
-use Rattle.tasks.specs.Totals.{total, weighed, checked-total}
+use Rattle.tasks.specs.Totals.{weighed}
 use Rattle.tasks.proofs.Checking.{run-decides}
 use Rattle.packed.specs.Decoding.{opened}
 use Rattle.packed.specs.Packing.{Packs, Packing-decides}
-use Rattle.job.specs.Jobs.{Priced-plan, plan-read, with-total, plan-priced, on-task, job}
-use Rattle.job.specs.JobLaw.{Spells, Works, Job-decides}
+use Rattle.job.specs.Jobs.{plan-read, with-total, plan-priced, on-task, job}
+use Rattle.job.specs.JobLaw.{Job-decides}
 use Rattle.job.proofs.Spelling.{reads-spell, spells-read}
 
 ok-same : {A : Type 0} (x y : A) → _≡_ {A = Result A Refusal} (Ok x) (Ok y) → x ≡ y

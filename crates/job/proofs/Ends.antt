@@ -8,9 +8,9 @@ use Rattle.tasks.specs.declared.refusal.Refusal.{Refusal}
 use Rattle.tasks.specs.Task.{Priced}
 use Rattle.tasks.specs.Measures.{charge}
 use Rattle.tasks.specs.Totals.{checked-total}
-use Rattle.job.specs.declared.Failure.{Failure}
-use Rattle.job.specs.declared.Failure.the-variants.{Refused, NoMemory}
-use Rattle.job.specs.declared.Report.{Report}
+use Rattle.job.specs.declared.failure.Failure.{Failure}
+use Rattle.job.specs.declared.failure.Failure.the-variants.{Refused, NoMemory}
+use Rattle.job.specs.declared.report.Report.{Report}
 use Rattle.job.specs.Jobs.{Priced-plan, plan-read, with-total, plan-priced, on-task}
 use Rattle.job.specs.Outcomes.{Comes-to, actions-in, reported}
 

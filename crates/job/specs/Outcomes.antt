@@ -8,9 +8,9 @@ use Rattle.std.specs.declared.alloc.Global.{Global}
 use Rattle.std.specs.declared.vec.Vec.{Vec}
 use Rattle.std.specs.Of.Vec.{vec-items}
 use Rattle.tasks.specs.declared.refusal.Refusal.{Refusal}
-use Rattle.job.specs.declared.Failure.{Failure}
-use Rattle.job.specs.declared.Failure.the-variants.{Refused, NoMemory}
-use Rattle.job.specs.declared.Report.{Report}
+use Rattle.job.specs.declared.failure.Failure.{Failure}
+use Rattle.job.specs.declared.failure.Failure.the-variants.{Refused, NoMemory}
+use Rattle.job.specs.declared.report.Report.{Report}
 use Rattle.job.specs.Jobs.{Priced-plan}
 
 -- An answer or a refusal is the one that is due; want of memory says nothing.

@@ -1,6 +1,6 @@
 // Reads task.bin and top.plan in its folder, and prints what the job makes of them.
 use job::Failure;
-use job::ReportDisplay;
+use job::report::ReportDisplay;
 use std::error::AnyError;
 use std::fs;
 use std::io::ErrorKind;

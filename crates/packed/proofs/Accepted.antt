@@ -1,5 +1,5 @@
 -- What an accepted file shows, as facts and not as tests.
-use mathlib.Core.Path.{_≡_, refl, sym, ap, subst, _∙_}
+use mathlib.Core.Path.{_≡_, refl, _∙_}
 use mathlib.Core.Bool.{Bool, true, false, cond, _&&_, _||_, not}
 use mathlib.Core.List.{List}
 use Prim.Native.Nat.{ℕ, zero, suc, _+_, _*_, _≤_, _<_}
@@ -10,12 +10,11 @@ use Rattle.std.specs.declared.option.Option.{Option}
 use Rattle.std.specs.declared.option.Option.the-variants.{Some, None}
 use Rattle.std.specs.Options.{isSome}
 use Rattle.std.proofs.shelf.Tests.{true≢false, ltb-true, ltb-false, eqb-true, lt-ltb, le-ltb, eq-eqb, not-false, not-from-true, and-parts, and-from, or-parts, or-from, cond-false}
-use Rattle.tasks.specs.declared.refusal.Cause.the-variants.{FileLength, Layout, Counts, SpareBit, CutShort, ValueRange, VariableOrder, LeftOver}
 use Rattle.tasks.specs.declared.refusal.Refusal.{Refusal}
 use Rattle.packed.specs.Records.{word, layout, header-spare, variable-spare, precondition-count, effect-count, action-spare, fact-variable, fact-value, fact-spare, values-fit}
 use Rattle.tasks.specs.Bounds.{first-some}
 use Rattle.packed.specs.Decoding.{header, variables, actions, variable-at, variable-record, size, effects-at, past-action, action-at, fact-record, header-refusal, variable-refusal, ascends, fact-refusal, facts-refusal, start-refusal, action-refusal, actions-refusal, refusal}
-use Rattle.tasks.proofs.Firsts.{or-else, or-none, or-skip, none-at, none-from}
+use Rattle.tasks.proofs.Firsts.{or-none, or-skip, none-at, none-from}
 
 pub record Accepted-header (bs : List ℕ) : Type 0 where
   pub long : 4 ≤ length bs

@@ -1,19 +1,18 @@
 -- The pass over the actions of a file that notes where each begins.
-use mathlib.Core.Path.{_≡_, refl, sym, ap, subst, _∙_}
+use mathlib.Core.Path.{_≡_, sym, ap, _∙_}
 use mathlib.Core.List.{List}
-use Prim.Native.Nat.{ℕ, suc, _+_, _≤_, _<_}
+use Prim.Native.Nat.{ℕ, _+_, _≤_, _<_}
 use native.Mathlib.Numerals.{add-one}
 use native.Mathlib.Omega.{arith}
 use borrow.Author.Count.{below-more}
 use lib.ListN.{length, getD, set, length-set}
 use lib.Seq.{getD-set-same, getD-set-other}
-use Rattle.std.specs.declared.option.Option.{Option}
 use Rattle.std.specs.declared.option.Option.the-variants.{Some, None}
 use Rattle.std.specs.declared.result.Result.the-variants.{Ok, Err}
 use Rattle.tasks.specs.declared.refusal.Refusal.{Refusal}
 use Rattle.tasks.specs.Bounds.{first-some}
-use Rattle.packed.specs.Decoding.{actions, variable-at, variables, past-action, action-at, action-refusal, actions-refusal}
-use Rattle.packed.specs.Checks.{unless, Placed}
+use Rattle.packed.specs.Decoding.{actions, past-action, action-at, action-refusal, actions-refusal}
+use Rattle.packed.specs.Checks.{unless}
 use Rattle.tasks.proofs.Firsts.{none-more, some-at}
 use Rattle.packed.proofs.Unless.{passed, answer, stopped}
 use Rattle.packed.proofs.Accepted.{action-accepted}

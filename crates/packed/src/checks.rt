@@ -1,11 +1,11 @@
 // The checks of a packed file, front to back. Each answers the first thing that is wrong, at the first byte of its record.
 ghost use mathlib.Core.Path.{_≡_};
-ghost use Prim.Native.Nat.{ℕ, _+_, _*_, _^_, _≤_, _<_};
-ghost use lib.ListN.{length, getD};
+ghost use Prim.Native.Nat.{_+_, _*_, _^_, _≤_, _<_};
+ghost use lib.ListN.{length};
 ghost use Rattle.std.specs.Results.{Cases};
 ghost use Rattle.std.specs.declared.option.Option.the-variants.{Some, None};
 ghost use Rattle.tasks.specs.Bounds.{first-some};
-ghost use Rattle.packed.specs.Decoding.{header as headerOf, variables as variablesOf, actions as actionsOf, variable-at, action-at, effects-at, past-action, header-refusal, variable-refusal, fact-refusal, facts-refusal, action-refusal, actions-refusal, refusal, opened};
+ghost use Rattle.packed.specs.Decoding.{header as headerOf, variables as variablesOf, actions as actionsOf, variable-at, action-at, past-action, header-refusal, variable-refusal, fact-refusal, facts-refusal, action-refusal, actions-refusal, refusal, opened};
 ghost use Rattle.packed.specs.Packing.{Packing-decides};
 ghost use Rattle.packed.specs.Checks.{unless, Placed};
 use crate::records::Action;

@@ -2,14 +2,11 @@
 use mathlib.Core.Path.{_≡_}
 use mathlib.Core.List.{List, [], _∷_}
 use Prim.Native.Nat.{ℕ}
-use lib.ListN.{length, take}
-use Rattle.std.specs.declared.option.Option.{Option}
+use lib.ListN.{take}
 use Rattle.std.specs.declared.option.Option.the-variants.{Some, None}
-use Rattle.std.specs.declared.result.Result.{Result}
 use Rattle.std.specs.declared.result.Result.the-variants.{Ok, Err}
 use Rattle.tasks.specs.declared.refusal.Cause.{Cause}
 use Rattle.tasks.specs.declared.refusal.Cause.the-variants.{CutShort, CannotRun, GoalMissed}
-use Rattle.tasks.specs.declared.refusal.Refusal.{Refusal}
 use Rattle.tasks.specs.Task.{Priced, priced}
 use Rattle.tasks.specs.Measures.{CostAlgebra, charge, depth}
 use Rattle.tasks.specs.Totals.{checked-total}

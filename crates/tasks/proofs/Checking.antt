@@ -17,8 +17,8 @@ use Rattle.std.proofs.shelf.Tests.{both-ways, cases-bool}
 use Rattle.tasks.specs.declared.refusal.Cause.the-variants.{CannotRun}
 use Rattle.tasks.specs.declared.refusal.Refusal.{Refusal}
 use Rattle.tasks.specs.Task.{Task, Lawful}
-use Rattle.tasks.specs.Plans.{State, agrees, over, can-run, after, run, met, ends-well, is-plan, missed-goal, ended, checked-from, checked}
-use Rattle.tasks.specs.Runs.{Same-live, Live-values, Meets, Can-run, Effect, state-at, Run-from, Run, Run-decides}
+use Rattle.tasks.specs.Plans.{State, agrees, can-run, after, run, met, ends-well, missed-goal, ended, checked-from, checked}
+use Rattle.tasks.specs.Runs.{Same-live, Live-values, Meets, Can-run, Effect, state-at, Run-from, Run-decides}
 use Rattle.tasks.proofs.Bounded.{below-from, passing-at, passing-from}
 use Rattle.tasks.proofs.Lawful.{over-some, over-none, some-or-none, can-run-at, can-run-from, met-at, met-from}
 use Rattle.tasks.proofs.Running.{live-init, live-after}

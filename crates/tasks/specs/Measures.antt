@@ -1,7 +1,6 @@
 -- How totals are measured: a cost algebra, and its laws.
 use mathlib.Core.Path.{_≡_}
 use mathlib.Core.Bool.{Bool, true}
-use mathlib.Core.List.{List, [], _∷_}
 use mathlib.Core.Logic.{_⊎_}
 use Prim.Native.Nat.{ℕ, _+_, min, max}
 use lib.Dec.{leb}

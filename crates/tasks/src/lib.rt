@@ -4,6 +4,8 @@ pub mod plan;
 pub mod refusal;
 pub mod state;
 pub mod task;
+#[cfg(test)]
+mod tests;
 
 pub use measure::Charge;
 pub use measure::Depth;

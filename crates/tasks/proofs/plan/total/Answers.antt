@@ -1,5 +1,4 @@
-use mathlib.Core.Path.{_≡_, sym, ap, ap₂, _∙_}
-use native.Mathlib.Omega.{arith}
+use mathlib.Core.Path.{sym, ap, ap₂, _∙_}
 use lib.ListN.{take, getD}
 use Rattle.std.proofs.shelf.Lists.{take-more, take-all}
 use Rattle.tasks.specs.Task.{priced}

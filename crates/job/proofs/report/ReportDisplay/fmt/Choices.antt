@@ -1,7 +1,7 @@
 use lib.ListN.{take}
 use Rattle.std.specs.Written.{Plain, Put}
 use Rattle.job.specs.Texts.{action-lines}
-use Rattle.job.proofs.ReportDisplay.fmt.Given as given
+use Rattle.job.proofs.report.ReportDisplay.fmt.Given as given
 
 -- the lines of the actions so far are written
 abbrev pub Inv-loop-action : given.InvT-loop-action

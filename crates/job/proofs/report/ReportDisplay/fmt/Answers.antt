@@ -7,7 +7,7 @@ use Rattle.std.specs.Results.{isOk}
 use Rattle.std.proofs.Writes.{wrote-none, put-more, put-is}
 use Rattle.job.specs.Texts.{action-lines, report-head}
 use Rattle.job.proofs.Lines.{lines-more, lines-all}
-use Rattle.job.proofs.ReportDisplay.fmt.Needs as need
+use Rattle.job.proofs.report.ReportDisplay.fmt.Needs as need
 
 pub loop-action-holds : need.loop-action-holds
 loop-action-holds g c = λ plain. record { wrote = wrote-none (g .W·Write .took) _; plain = plain }

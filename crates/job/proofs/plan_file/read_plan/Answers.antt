@@ -1,6 +1,6 @@
 use Rattle.std.specs.Of.Vec.{vec-items}
 use Rattle.job.proofs.Numbers.{numbers-more}
-use Rattle.job.proofs.read_plan.Needs as need
+use Rattle.job.proofs.plan_file.read_plan.Needs as need
 
 pub loop-i-again : need.loop-i-again
 loop-i-again c =

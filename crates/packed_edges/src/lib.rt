@@ -1,0 +1,3 @@
+// The edges of packed files and of the program's two files: tests alone.
+#[cfg(test)]
+mod tests;
