@@ -1,18 +1,17 @@
 -- What is known of a survey that is not refused.
 use mathlib.Core.Path.{_≡_, refl}
-use mathlib.Core.Bool.{Bool, true, false, cond}
+use mathlib.Core.Bool.{true, false, not}
 use Prim.Native.Nat.{ℕ, suc, _≤_, _<_}
 use native.Mathlib.Omega.{arith}
-use lib.Dec.{eqb, leb}
+use lib.Dec.{eqb, ltb}
 use lib.ListN.{length, getD}
-use Rattle.std.proofs.shelf.Tests.{both-ways, leb-true, eqb-true}
+use Rattle.std.proofs.shelf.Tests.{both-ways, ltb-false, eqb-true, not-false}
 use Rattle.std.specs.Options.{isSome}
 use Rattle.std.specs.declared.option.Option.{Option}
 use Rattle.std.specs.declared.option.Option.the-variants.{Some, None}
-use Rattle.tasks.specs.declared.refusal.Cause.the-variants.{CellClosed}
-use Rattle.tasks.specs.declared.refusal.Refusal.{Refusal}
 use Rattle.tasks.proofs.Bounded.{passing-at}
-use Rattle.floors.specs.Floors.{Pool, cell-count, open-cell, sides-fit, place-cell, closed-place, refused-at, refusal-of}
+use Rattle.tasks.proofs.Refusing.{pass}
+use Rattle.floors.specs.Floors.{Pool, cell-count, open-cell, sides-fit, place-cell, closed-place, closed-refusal, refusal-of}
 use Rattle.floors.proofs.Cells.{Sides, sides-known}
 
 -- a test that is kept as a Bool
@@ -39,12 +38,7 @@ accepted-from p fit few paid clear = record {
   point-open = λ k lt. all-open p clear (suc k) (omega arith);
 }
 
--- of a test that refuses
-passed : (b : Bool) (rest : Option Refusal) (e : Refusal) → cond b rest (Some e) ≡ None → (b ≡ true) × (rest ≡ None)
-passed true rest e h = (refl, h)
-passed false rest e h = let z : _≡_ {A = ℕ} 0 1 = cc in absurd (omega arith)
-
-no-place : (o : Option ℕ) → refused-at CellClosed o ≡ None → isSome o ≡ false
+no-place : (o : Option ℕ) → closed-refusal o ≡ None → isSome o ≡ false
 no-place None h = refl
 no-place (Some k) h = let z : _≡_ {A = ℕ} 0 1 = cc in absurd (omega arith)
 
@@ -56,10 +50,10 @@ pub record Unrefused (p : Pool) : Type 0 where
 
 pub not-refused : (p : Pool) → refusal-of p ≡ None → Unrefused p
 not-refused p h =
-    let a = passed (sides-fit p) _ _ h in
-    let b = passed (leb (length (p .points)) 31) _ _ (a .1) in
-    let d = passed (eqb (length (p .prices)) (cell-count p)) _ _ (b .1) in
-    record { fit = a .0; few = leb-true _ _ (b .0); paid = eqb-true _ _ (d .0); clear = no-place (closed-place p) (d .1) }
+    let a = pass (not (sides-fit p)) _ _ h in
+    let b = pass (ltb 31 (length (p .points))) _ _ (a .1) in
+    let d = pass (not (eqb (length (p .prices)) (cell-count p))) _ _ (b .1) in
+    record { fit = not-false _ (a .0); few = ltb-false _ _ (b .0); paid = eqb-true _ _ (not-false _ (d .0)); clear = no-place (closed-place p) (d .1) }
 
 pub accepted-by : (p : Pool) → Unrefused p → Accepted p
 accepted-by p u = accepted-from p (u .fit) (u .few) (u .paid) (u .clear)

@@ -12,7 +12,7 @@ use Rattle.std.specs.declared.option.Option.the-variants.{Some, None}
 use Rattle.floors.specs.declared.floor.Deed.{Deed}
 use Rattle.floors.specs.declared.floor.Deed.the-variants.{Move, Sample}
 use Rattle.floors.specs.Floors.{Pool, cell-count, open-cell, heading, neighbour-of, move-between, sample-at, deed-of, asked-by, set-by}
-use Rattle.floors.proofs.Sharing.{chosen}
+use Rattle.tasks.proofs.Optional.{chosen}
 
 -- action a moves from c to d
 pub record Crossing (p : Pool) (a c d : ℕ) : Type 0 where

@@ -1,6 +1,6 @@
 -- The neighbours of a cell are just the cells that share a side with it.
-use mathlib.Core.Path.{_≡_, refl, sym, ap, _∙_}
-use mathlib.Core.Bool.{Bool, true, false, cond}
+use mathlib.Core.Path.{_≡_, sym, ap, _∙_}
+use mathlib.Core.Bool.{Bool, true, cond}
 use mathlib.Core.Logic.{inl, inr, ⊎-elim}
 use Prim.Native.Nat.{ℕ, zero, suc, _+_, _-_, _*_, _/_, _%_, _≤_, _<_}
 use native.Mathlib.Nat.{add-mul}
@@ -11,14 +11,11 @@ use Rattle.std.proofs.shelf.Tests.{cond-true, leb-true, ltb-true, le-leb, lt-lt
 use Rattle.std.specs.declared.option.Option.the-variants.{Some, None}
 use Rattle.floors.specs.declared.survey.Direction.{Direction}
 use Rattle.floors.specs.declared.survey.Direction.the-variants.{North, East, South, West}
+use Rattle.tasks.proofs.Optional.{chosen}
 use Rattle.floors.specs.Floors.{Pool, cell-count, heading, neighbour-of}
 use Rattle.floors.specs.FloorLaw.{Share-a-side}
 
 -- of a value that is named where a test passes
-pub chosen : (b : Bool) (y x : ℕ) → cond b (Some y) None ≡ Some x → (b ≡ true) × (y ≡ x)
-chosen true y x h = (refl, cc)
-chosen false y x h = let z : _≡_ {A = ℕ} 0 1 = cc in absurd (omega arith)
-
 pub choose : (b : Bool) (y x : ℕ) → b ≡ true → y ≡ x → cond b (Some y) None ≡ Some x
 choose b y x h e = cond-true b (Some y) None h ∙ ap Some e
 

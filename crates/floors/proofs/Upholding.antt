@@ -20,7 +20,8 @@ use Rattle.floors.specs.Floors.{Pool, cell-count, open-cell, heading, neighbou
 use Rattle.floors.specs.FloorLaw.{Moves, Samples, Floor-law}
 use Rattle.floors.proofs.Cells.{open-within}
 use Rattle.floors.proofs.Accepting.{Accepted}
-use Rattle.floors.proofs.Sharing.{chosen, sharing, shared}
+use Rattle.tasks.proofs.Optional.{chosen}
+use Rattle.floors.proofs.Sharing.{sharing, shared}
 use Rattle.floors.proofs.Doing.{Does, Crossing, deed-does, crossing-deed, sampling-deed, is-move}
 
 -- what is required or set is so of a live action alone

@@ -1,5 +1,5 @@
 -- What a floor means: the task and the prices of a survey, and when a survey is refused.
-use mathlib.Core.Bool.{Bool, cond, _&&_}
+use mathlib.Core.Bool.{Bool, cond, _&&_, not}
 use mathlib.Core.List.{List, _∷_}
 use Prim.Native.Nat.{ℕ, zero, suc, _+_, _-_, _*_, _/_, _%_, _^_}
 use lib.Dec.{eqb, ltb, leb}
@@ -8,10 +8,10 @@ use Rattle.std.specs.Of.Vec.{vec-items}
 use Rattle.std.specs.Options.{isSome}
 use Rattle.std.specs.declared.option.Option.{Option}
 use Rattle.std.specs.declared.option.Option.the-variants.{Some, None}
-use Rattle.tasks.specs.declared.refusal.Cause.{Cause}
 use Rattle.tasks.specs.declared.refusal.Cause.the-variants.{FloorSides, PointCount, PriceCount, CellClosed}
 use Rattle.tasks.specs.declared.refusal.Refusal.{Refusal}
 use Rattle.tasks.specs.Bounds.{first-failing}
+use Rattle.tasks.specs.Refusals.{refuse}
 use Rattle.tasks.specs.Task.{Task}
 use Rattle.floors.specs.declared.survey.Direction.{Direction}
 use Rattle.floors.specs.declared.survey.Direction.the-variants.{North, East, South, West}
@@ -125,13 +125,14 @@ place-cell p k = getD (p .start ∷ p .points) k 0
 abbrev pub closed-place : Pool → Option ℕ
 closed-place p = first-failing (suc (length (p .points))) (λ k. open-cell p (place-cell p k))
 
-abbrev pub refused-at : Cause → Option ℕ → Option Refusal
-refused-at cause None = None
-refused-at cause (Some k) = Some (record { cause = cause; place = k })
+-- refused there
+abbrev pub closed-refusal : Option ℕ → Option Refusal
+closed-refusal None = None
+closed-refusal (Some k) = refuse CellClosed k
 
 -- why a survey makes no floor, by the first reason in this order
 abbrev pub refusal-of : Pool → Option Refusal
 refusal-of p =
-    cond (sides-fit p)
-    (cond (leb (length (p .points)) 31) (cond (eqb (length (p .prices)) (cell-count p)) (refused-at CellClosed (closed-place p)) (refused-at PriceCount (Some 0))) (refused-at PointCount (Some 0)))
-    (refused-at FloorSides (Some 0))
+    cond (not (sides-fit p)) (refuse FloorSides 0)
+    (cond (ltb 31 (length (p .points))) (refuse PointCount 0)
+    (cond (not (eqb (length (p .prices)) (cell-count p))) (refuse PriceCount 0) (closed-refusal (closed-place p))))

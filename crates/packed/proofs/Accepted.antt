@@ -1,6 +1,6 @@
 -- What an accepted file shows, as facts and not as tests.
 use mathlib.Core.Path.{_≡_, refl, _∙_}
-use mathlib.Core.Bool.{Bool, true, false, cond, _&&_, _||_, not}
+use mathlib.Core.Bool.{true, false, _&&_, _||_, not}
 use mathlib.Core.List.{List}
 use Prim.Native.Nat.{ℕ, zero, suc, _+_, _*_, _≤_, _<_}
 use native.Mathlib.Omega.{arith}
@@ -9,8 +9,9 @@ use lib.ListN.{length}
 use Rattle.std.specs.declared.option.Option.{Option}
 use Rattle.std.specs.declared.option.Option.the-variants.{Some, None}
 use Rattle.std.specs.Options.{isSome}
-use Rattle.std.proofs.shelf.Tests.{true≢false, ltb-true, ltb-false, eqb-true, lt-ltb, le-ltb, eq-eqb, not-false, not-from-true, and-parts, and-from, or-parts, or-from, cond-false}
+use Rattle.std.proofs.shelf.Tests.{true≢false, ltb-true, ltb-false, eqb-true, lt-ltb, le-ltb, eq-eqb, not-false, not-from-true, and-parts, and-from, or-parts, or-from}
 use Rattle.tasks.specs.declared.refusal.Refusal.{Refusal}
+use Rattle.tasks.proofs.Refusing.{pass, pass-from}
 use Rattle.packed.specs.Records.{word, layout, header-spare, variable-spare, precondition-count, effect-count, action-spare, fact-variable, fact-value, fact-spare, values-fit}
 use Rattle.tasks.specs.Bounds.{first-some}
 use Rattle.packed.specs.Decoding.{header, variables, actions, variable-at, variable-record, size, effects-at, past-action, action-at, fact-record, header-refusal, variable-refusal, ascends, fact-refusal, facts-refusal, start-refusal, action-refusal, actions-refusal, refusal}
@@ -53,17 +54,6 @@ pub record Accepted (bs : List ℕ) : Type 0 where
   pub variable : (v : ℕ) → v < variables bs → Accepted-variable bs v
   pub action : (a : ℕ) → a < actions bs → Accepted-action bs (action-at bs a)
   pub end : action-at bs (actions bs) ≡ length bs
-
--- a test that refuses, and what is left when it does not
-abbrev refuse-if : Bool → Refusal → Option Refusal → Option Refusal
-refuse-if b e rest = cond b (Some e) rest
-
-pass : (b : Bool) (e : Refusal) (rest : Option Refusal) → refuse-if b e rest ≡ None → (b ≡ false) × (rest ≡ None)
-pass true e rest h = let z : _≡_ {A = ℕ} 0 1 = cc in absurd (omega arith)
-pass false e rest h = (refl, h)
-
-pass-from : (b : Bool) (e : Refusal) (rest : Option Refusal) → b ≡ false → rest ≡ None → refuse-if b e rest ≡ None
-pass-from b e rest h k = cond-false b (Some e) rest h ∙ k
 
 pub header-accepted : (bs : List ℕ) → header-refusal bs ≡ None → Accepted-header bs
 header-accepted bs h =

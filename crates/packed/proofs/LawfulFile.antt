@@ -1,24 +1,19 @@
 -- An accepted file is a lawful task.
-use mathlib.Core.Path.{_≡_, refl, sym, subst, _∙_}
+use mathlib.Core.Path.{_≡_, sym, subst, _∙_}
 use mathlib.Core.Logic.{⊎-elim}
-use mathlib.Core.Bool.{Bool, true, false, cond}
+use mathlib.Core.Bool.{true, false, cond}
 use mathlib.Core.List.{List}
 use Prim.Native.Nat.{ℕ, _+_, _≤_, _<_}
 use native.Mathlib.Omega.{arith}
 use lib.Dec.{eqb, ltb}
-use Rattle.std.specs.declared.option.Option.{Option}
-use Rattle.std.specs.declared.option.Option.the-variants.{Some, None}
+use Rattle.std.specs.declared.option.Option.the-variants.{Some}
 use Rattle.std.proofs.shelf.Tests.{ltb-true, lt-ltb, le-ltb, eqb-true, and-parts, cases-bool, cond-true, cond-false, cond-both}
 use Rattle.tasks.specs.Task.{Lawful}
+use Rattle.tasks.proofs.Optional.{guard-some, chosen}
 use Rattle.packed.specs.Records.{values-fit, size-of, initial-of, goal-bit, goal-value, goal-of, precondition-count, effect-count, fact-variable, fact-value}
 use Rattle.packed.specs.Decoding.{fact-for, variables, actions, variable-record, size, effects-at, action-at, action-record, fact-record, looked-up, preconditions, effects, decoded-task}
 use Rattle.tasks.proofs.Firsts.{some-found}
 use Rattle.packed.proofs.Accepted.{Accepted-fact, Accepted}
-
--- what is there only if a test passes
-pub guard-some : (b : Bool) (o : Option ℕ) (x : ℕ) → cond b o None ≡ Some x → (b ≡ true) × (o ≡ Some x)
-guard-some true o x e = (refl, e)
-guard-some false o x e = let z : _≡_ {A = ℕ} 0 1 = cc in absurd (omega arith)
 
 pub size-of-most : (n : ℕ) → size-of n ≤ 64
 size-of-most n = omega arith
@@ -29,20 +24,12 @@ initial-fits n h = ltb-true (initial-of n) (size-of n) (and-parts (ltb (initial-
 pub goal-fits : (n x : ℕ) → values-fit n ≡ true → goal-of n ≡ Some x → x < size-of n
 goal-fits n x h e =
     let rest = and-parts (ltb (initial-of n) (size-of n)) (cond (eqb (goal-bit n) 1) (ltb (goal-value n) (size-of n)) (eqb (goal-value n) 0)) h .1 in
-    let both = guard-some (eqb (goal-bit n) 1) (Some (goal-value n)) x e in
+    let both = chosen (eqb (goal-bit n) 1) (goal-value n) x e in
     let fit = ltb-true (goal-value n) (size-of n) (sym (cond-true (eqb (goal-bit n) 1) (ltb (goal-value n) (size-of n)) (eqb (goal-value n) 0) (both .0)) ∙ rest) in
-    same (goal-value n) x (size-of n) (both .1) fit
-  where
-    same : (y x k : ℕ) → _≡_ {A = Option ℕ} (Some y) (Some x) → y < k → x < k
-    same y x k e l = let q : y ≡ x = cc in omega arith
+    subst (λ (y : ℕ). y < size-of n) (both .1) fit
 
 pub fact-for-some : (n v x : ℕ) → fact-for v n ≡ Some x → (fact-variable n ≡ v) × (fact-value n ≡ x)
-fact-for-some n v x e =
-    let both = guard-some (eqb (fact-variable n) v) (Some (fact-value n)) x e in
-    (eqb-true (fact-variable n) v (both .0), same (fact-value n) (both .1))
-  where
-    same : (y : ℕ) → _≡_ {A = Option ℕ} (Some y) (Some x) → y ≡ x
-    same y e = cc
+fact-for-some n v x e = let both = chosen (eqb (fact-variable n) v) (fact-value n) x e in (eqb-true (fact-variable n) v (both .0), both .1)
 
 -- what facts give to a variable is one of its values
 pub looked-up-fits : (bs : List ℕ) (place n : ℕ) → ((k : ℕ) → k < n → Accepted-fact bs place k) → (v x : ℕ) → looked-up bs place n v ≡ Some x → x < size bs v

@@ -13,7 +13,8 @@ use Rattle.std.specs.declared.option.Option.the-variants.{Some, None}
 use Rattle.std.proofs.shelf.Lists.{length-append}
 use Rattle.std.proofs.shelf.Tests.{lt-ltb, le-ltb, cases-lt, cases-bool, cond-true, cond-false}
 use Rattle.tasks.specs.Task.{Priced, Lawful}
-use Rattle.tasks.proofs.Lawful.{some-or-none, pre-past, eff-past, var-past, goal-below}
+use Rattle.tasks.proofs.Optional.{some-or-none}
+use Rattle.tasks.proofs.Lawful.{pre-past, eff-past, var-past, goal-below}
 use Rattle.packed.specs.Records.{word, layout, variable-count, action-count, header-spare, initial-of, goal-of, price-of, precondition-count, effect-count, action-spare, fact-variable, fact-value}
 use Rattle.packed.specs.Decoding.{header, variables, actions, variable-record, size, effects-at, past-action, action-at, action-record, fact-record, looked-up, preconditions, effects, decoded-task, decoded}
 use Rattle.packed.specs.Packing.{bytes-of, in-turn, header-number, variable-number, action-number, facts-bytes, fact-count, variable-bytes, action-bytes, packing, Packs}

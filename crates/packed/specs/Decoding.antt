@@ -8,15 +8,12 @@ use Rattle.std.specs.declared.option.Option.{Option}
 use Rattle.std.specs.declared.option.Option.the-variants.{Some, None}
 use Rattle.std.specs.declared.result.Result.{Result}
 use Rattle.std.specs.declared.result.Result.the-variants.{Ok, Err}
-use Rattle.tasks.specs.declared.refusal.Cause.{Cause}
 use Rattle.tasks.specs.declared.refusal.Cause.the-variants.{FileLength, Layout, Counts, SpareBit, CutShort, ValueRange, VariableOrder, LeftOver}
 use Rattle.tasks.specs.declared.refusal.Refusal.{Refusal}
 use Rattle.tasks.specs.Bounds.{first-some}
+use Rattle.tasks.specs.Refusals.{refuse}
 use Rattle.tasks.specs.Task.{Task, Priced, priced}
 use Rattle.packed.specs.Records.{word, layout, variable-count, action-count, header-spare, size-of, initial-of, goal-of, values-fit, variable-spare, price-of, precondition-count, effect-count, action-spare, fact-variable, fact-value, fact-spare}
-
-abbrev pub refuse : Cause → ℕ → Option Refusal
-refuse cause place = Some (record { cause = cause; place = place })
 
 -- the value that a fact gives to v
 abbrev pub fact-for : ℕ → ℕ → Option ℕ

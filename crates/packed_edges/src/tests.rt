@@ -3,6 +3,7 @@ use job::failure::FailureDebug;
 use packed::File;
 use packed::file::questions::FilePriced;
 use packed::file::questions::FileTask;
+use small_pools::worked_file;
 use std::alloc::AllocError;
 use std::alloc::Global;
 use std::test::*;
@@ -13,15 +14,7 @@ use tasks::Task;
 use tasks::refusal::RefusalDebug;
 use tasks::refusal::RefusalPartialEq;
 
-// Two variables of two values: a switch, and a lamp whose goal is 1. The switch can be turned on for 3 and off for 3,
-// and where it is on the lamp can be lit for 2. A line for the first record, one for the variables, one for each action.
-const WORKED: &[u8; 36] = b"\x10\x80\x30\x00\
-    \x04\x00\x00\x04\x08\x20\
-    \x00\x03\x04\x10\x00\x00\x00\x20\
-    \x00\x03\x04\x10\x00\x20\x00\x00\
-    \x00\x02\x08\x10\x00\x20\x08\x00\x08\x20";
-
-// Where each of its records begins and ends.
+// Where each record of the worked file begins and ends.
 const RECORDS: [(usize, usize); 13] = [
     (0, 4),
     (4, 7),
@@ -148,6 +141,7 @@ fn push_facts(bytes: &mut Vec<u8>, count: u8) -> Result<(), AllocError> {
 #[test]
 fn a_file_of_another_length_is_refused(rt: LibcRuntime) -> Result<(), Fail> {
     let heap = rt.alloc();
+    let worked = worked_file();
     for (start, end) in RECORDS {
         let cause = if start == 0 {
             Cause::FileLength
@@ -156,10 +150,10 @@ fn a_file_of_another_length_is_refused(rt: LibcRuntime) -> Result<(), Fail> {
         };
         for length in start..end {
             check(length < 36)?;
-            check_eq(refusal(heap, &WORKED[..length])?, refused(cause, start))?;
+            check_eq(refusal(heap, &worked[..length])?, refused(cause, start))?;
         }
     }
-    let mut longer = WORKED.to_vec(heap)?;
+    let mut longer = worked.to_vec(heap)?;
     check_eq(refusal(heap, &longer)?, None)?;
     longer.push(0)?;
     check_eq(refusal(heap, &longer)?, refused(Cause::LeftOver, 36))
@@ -168,7 +162,7 @@ fn a_file_of_another_length_is_refused(rt: LibcRuntime) -> Result<(), Fail> {
 #[test]
 fn a_changed_byte_is_refused_at_its_record(rt: LibcRuntime) -> Result<(), Fail> {
     for (index, byte, cause, place) in CHANGED {
-        let mut bytes = *WORKED;
+        let mut bytes = worked_file();
         check(index < 36)?;
         bytes[index] = byte;
         check_eq(refusal(rt.alloc(), &bytes)?, refused(cause, place))?;
@@ -247,7 +241,10 @@ fn a_plan_file_ends_at_32768_bytes(rt: LibcRuntime) -> Result<(), Fail> {
     let heap = rt.alloc();
     for (length, cause, place) in PLAN_LENGTHS {
         let plan = vec![in heap; 0; length]?;
-        check_eq(turned_away(heap, WORKED, &plan)?, refused(cause, place))?;
+        check_eq(
+            turned_away(heap, &worked_file(), &plan)?,
+            refused(cause, place),
+        )?;
     }
     Ok(())
 }
@@ -255,11 +252,12 @@ fn a_plan_file_ends_at_32768_bytes(rt: LibcRuntime) -> Result<(), Fail> {
 #[test]
 fn the_task_comes_before_the_plan(rt: LibcRuntime) -> Result<(), Fail> {
     let heap = rt.alloc();
+    let worked = worked_file();
     check_eq(
         (
             turned_away(heap, &[], &[0, 0])?,
-            turned_away(heap, &WORKED[..35], &[0])?,
-            turned_away(heap, WORKED, &[0, 1])?,
+            turned_away(heap, &worked[..35], &[0])?,
+            turned_away(heap, &worked, &[0, 1])?,
         ),
         (
             refused(Cause::FileLength, 0),
@@ -267,6 +265,6 @@ fn the_task_comes_before_the_plan(rt: LibcRuntime) -> Result<(), Fail> {
             refused(Cause::CannotRun, 0),
         ),
     )?;
-    let report = job::run(heap, WORKED.to_vec(heap)?, &[0, 0, 0, 2])?;
+    let report = job::run(heap, worked.to_vec(heap)?, &[0, 0, 0, 2])?;
     check_eq((report.plan, report.total), (vec![in heap; 0, 2]?, 5))
 }

@@ -17,23 +17,30 @@ use Rattle.std.proofs.shelf.Tests.{both-ways, cases-bool}
 use Rattle.tasks.specs.declared.refusal.Cause.the-variants.{CannotRun}
 use Rattle.tasks.specs.declared.refusal.Refusal.{Refusal}
 use Rattle.tasks.specs.Task.{Task, Lawful}
-use Rattle.tasks.specs.Plans.{State, agrees, can-run, after, run, met, ends-well, missed-goal, ended, checked-from, checked}
+use Rattle.tasks.specs.Plans.{State, agrees, can-run, after, run, met, ends-well, missed-goal, ended, ran-from, judged, checked-from, checked}
 use Rattle.tasks.specs.Runs.{Same-live, Live-values, Meets, Can-run, Effect, state-at, Run-from, Run-decides}
 use Rattle.tasks.proofs.Bounded.{below-from, passing-at, passing-from}
-use Rattle.tasks.proofs.Lawful.{over-some, over-none, some-or-none, can-run-at, can-run-from, met-at, met-from}
+use Rattle.tasks.proofs.Optional.{some-or-none}
+use Rattle.tasks.proofs.Lawful.{over-some, over-none, can-run-at, can-run-from, met-at, met-from}
 use Rattle.tasks.proofs.Running.{live-init, live-after}
 
--- one action of a check, by its test
-next : Task → State → ℕ → ℕ → List ℕ → Bool → Result State Refusal
-next t s i a rest b = elim b [ true ↦ checked-from t (after t s a) (suc i) rest | false ↦ Err (record { cause = CannotRun; place = i }) ]
+-- one action of a run, by its test
+next : Task → State → ℕ → ℕ → List ℕ → Bool → Result State ℕ
+next t s i a rest b = elim b [ true ↦ ran-from t (after t s a) (suc i) rest | false ↦ Err i ]
 
-pub checked-step : (t : Task) (s : State) (i a : ℕ) (rest : List ℕ) → can-run t s a ≡ true → checked-from t s i (a ∷ rest) ≡ checked-from t (after t s a) (suc i) rest
+pub ran-step : (t : Task) (s : State) (i a : ℕ) (rest : List ℕ) → can-run t s a ≡ true → ran-from t s i (a ∷ rest) ≡ ran-from t (after t s a) (suc i) rest
 unfolding next
-checked-step t s i a rest e = ap (next t s i a rest) e
+ran-step t s i a rest e = ap (next t s i a rest) e
 
-pub checked-stops : (t : Task) (s : State) (i a : ℕ) (rest : List ℕ) → can-run t s a ≡ false → checked-from t s i (a ∷ rest) ≡ Err (record { cause = CannotRun; place = i })
+pub ran-stops : (t : Task) (s : State) (i a : ℕ) (rest : List ℕ) → can-run t s a ≡ false → ran-from t s i (a ∷ rest) ≡ Err i
 unfolding next
-checked-stops t s i a rest e = ap (next t s i a rest) e
+ran-stops t s i a rest e = ap (next t s i a rest) e
+
+checked-step : (t : Task) (s : State) (i a : ℕ) (rest : List ℕ) → can-run t s a ≡ true → checked-from t s i (a ∷ rest) ≡ checked-from t (after t s a) (suc i) rest
+checked-step t s i a rest e = ap (judged t) (ran-step t s i a rest e)
+
+checked-stops : (t : Task) (s : State) (i a : ℕ) (rest : List ℕ) → can-run t s a ≡ false → checked-from t s i (a ∷ rest) ≡ Err (record { cause = CannotRun; place = i })
+checked-stops t s i a rest e = ap (judged t) (ran-stops t s i a rest e)
 
 err-ok : {A : Type 0} (r : Result State Refusal) (e : Refusal) (u : State) → r ≡ Err e → r ≡ Ok u → A
 err-ok r e u p q = let z : _≡_ {A = ℕ} 0 1 = cc in absurd (omega arith)
@@ -153,24 +160,24 @@ accepted-is-plan t [] s i = go (met t s) refl
         fails (Some v) q = ap (λ (o : Option ℕ). isOk (ended s o)) q ∙ sym e
 accepted-is-plan t (a ∷ rest) s i = go (can-run t s a) (accepted-is-plan t rest (after t s a) (suc i))
   where
-    go : (b : Bool) → isOk (checked-from t (after t s a) (suc i) rest) ≡ ends-well t (run t (after t s a) rest) → isOk {T = State} {E = Refusal} (elim b [ true ↦ checked-from t (after t s a) (suc i) rest | false ↦ Err (record { cause = CannotRun; place = i }) ]) ≡ ends-well t (elim b [ true ↦ run t (after t s a) rest | false ↦ None ])
+    go : (b : Bool) → isOk (checked-from t (after t s a) (suc i) rest) ≡ ends-well t (run t (after t s a) rest) → isOk (judged t (elim b [ true ↦ ran-from t (after t s a) (suc i) rest | false ↦ Err i ])) ≡ ends-well t (elim b [ true ↦ run t (after t s a) rest | false ↦ None ])
     go true more = more
     go false more = refl
 
--- the turns of a loop that checks, at place i of the plan
-module _ (t : Task) (s : State) (i : ℕ) (plan : List ℕ) where
-  pub checked-more : (u : State) → i < length plan → can-run t s (getD plan i 0) ≡ true → u ≡ after t s (getD plan i 0) → checked-from t u (i + 1) (drop (i + 1) plan) ≡ checked-from t s i (drop i plan)
-  checked-more u l runs e =
-      ap (λ (k : State). checked-from t k (i + 1) (drop (i + 1) plan)) e
-      ∙ ap (λ (k : ℕ). checked-from t (after t s (getD plan i 0)) k (drop (i + 1) plan)) (add-one i)
-      ∙ sym (checked-step t s i (getD plan i 0) (drop (i + 1) plan) runs)
-      ∙ sym (at-drop-more (checked-from t s i) plan i 0 l)
+-- the turns of a loop that runs a list, at place i
+module _ (t : Task) (s : State) (i : ℕ) (list : List ℕ) where
+  pub ran-more : (u : State) → i < length list → can-run t s (getD list i 0) ≡ true → u ≡ after t s (getD list i 0) → ran-from t u (i + 1) (drop (i + 1) list) ≡ ran-from t s i (drop i list)
+  ran-more u l runs e =
+      ap (λ (k : State). ran-from t k (i + 1) (drop (i + 1) list)) e
+      ∙ ap (λ (k : ℕ). ran-from t (after t s (getD list i 0)) k (drop (i + 1) list)) (add-one i)
+      ∙ sym (ran-step t s i (getD list i 0) (drop (i + 1) list) runs)
+      ∙ sym (at-drop-more (ran-from t s i) list i 0 l)
 
-  pub checked-here : i < length plan → can-run t s (getD plan i 0) ≡ false → checked-from t s i (drop i plan) ≡ Err (record { cause = CannotRun; place = i })
-  checked-here l stops = at-drop-more (checked-from t s i) plan i 0 l ∙ checked-stops t s i (getD plan i 0) (drop (i + 1) plan) stops
+  pub ran-here : i < length list → can-run t s (getD list i 0) ≡ false → ran-from t s i (drop i list) ≡ Err i
+  ran-here l stops = at-drop-more (ran-from t s i) list i 0 l ∙ ran-stops t s i (getD list i 0) (drop (i + 1) list) stops
 
-  pub checked-end : length plan ≤ i → checked-from t s i (drop i plan) ≡ ended s (missed-goal t s)
-  checked-end l = at-drop-all (checked-from t s i) plan i l
+  pub ran-end : length list ≤ i → ran-from t s i (drop i list) ≡ Ok s
+  ran-end l = at-drop-all (ran-from t s i) list i l
 
 pub decided : (t : Task) → Lawful t → (plan : List ℕ) (r : Result State Refusal) → r ≡ checked t plan → Run-decides t plan r
 decided t law plan r e = subst (Run-decides t plan) (sym e) (run-decides t law plan)

@@ -1,6 +1,6 @@
 -- What is live in a lawful task, and what its tests say as facts.
 use mathlib.Core.Path.{_≡_, refl, sym, ap, _∙_, fun-ext}
-use mathlib.Core.Logic.{_⊎_, inl, inr, ⊎-elim}
+use mathlib.Core.Logic.{⊎-elim}
 use mathlib.Core.Bool.{true, false}
 use Prim.Native.Nat.{ℕ, _≤_, _<_}
 use native.Mathlib.Omega.{arith}
@@ -11,17 +11,8 @@ use Rattle.tasks.specs.Bounds.{all-below}
 use Rattle.tasks.specs.Task.{Task, Lawful}
 use Rattle.tasks.specs.Plans.{State, agrees, over, can-run, after, met}
 use Rattle.tasks.specs.Runs.{Meets, Can-run}
+use Rattle.tasks.proofs.Optional.{some-or-none, none-some, some-inj}
 use Rattle.tasks.proofs.Bounded.{below-at, below-from, below-fails}
-
-pub some-or-none : (o : Option ℕ) → ((x : ℕ) × (o ≡ Some x)) ⊎ (o ≡ None)
-some-or-none None = inr refl
-some-or-none (Some x) = inl (x, refl)
-
-pub none-some : {A : Type 0} (o : Option ℕ) (x : ℕ) → o ≡ None → o ≡ Some x → A
-none-some o x p q = let z : _≡_ {A = ℕ} 0 1 = cc in absurd (omega arith)
-
-pub some-inj : (x y : ℕ) → _≡_ {A = Option ℕ} (Some x) (Some y) → x ≡ y
-some-inj x y e = cc
 
 -- what is set, and what is left as it was
 pub over-some : (o : Option ℕ) (x y : ℕ) → o ≡ Some y → over o x ≡ y

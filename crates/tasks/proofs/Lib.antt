@@ -1,6 +1,8 @@
 pub mod Saturating
 pub mod Firsts
 pub mod Bounded
+pub mod Optional
+pub mod Refusing
 pub mod Lawful
 pub mod Running
 pub mod Checking

@@ -61,20 +61,27 @@ Solvable t = (plan : List ℕ) × (is-plan t plan ≡ true)
 abbrev pub missed-goal : Task → State → Option ℕ
 missed-goal t s = first-failing (t .vars) (λ v. agrees (t .goal v) (s v))
 
+-- From s, the actions being numbered from i: the state at the end, or the number of the first action that cannot run.
+abbrev pub ran-from : Task → State → ℕ → List ℕ → Result State ℕ
+ran-from t s i [] = Ok s
+ran-from t s i (a ∷ rest) = elim (can-run t s a) [ true ↦ ran-from t (after t s a) (suc i) rest | false ↦ Err i ]
+
 abbrev pub ended : State → Option ℕ → Result State Refusal
 ended s None = Ok s
 ended s (Some v) = Err (record { cause = GoalMissed; place = v })
 
--- From s, the actions being numbered from i: refused at the first that cannot run, then at the lowest variable whose
--- goal is missed; otherwise the state at the end.
+-- Refused at the action that cannot run, else at the lowest variable whose goal is missed; otherwise the state at the end.
+abbrev pub judged : Task → Result State ℕ → Result State Refusal
+judged t (Ok s) = ended s (missed-goal t s)
+judged t (Err i) = Err (record { cause = CannotRun; place = i })
+
 abbrev pub checked-from : Task → State → ℕ → List ℕ → Result State Refusal
-checked-from t s i [] = ended s (missed-goal t s)
-checked-from t s i (a ∷ rest) = elim (can-run t s a) [ true ↦ checked-from t (after t s a) (suc i) rest | false ↦ Err (record { cause = CannotRun; place = i }) ]
+checked-from t s i list = judged t (ran-from t s i list)
 
 abbrev pub checked : Task → List ℕ → Result State Refusal
 checked t plan = checked-from t (t .init) 0 plan
 
 -- what an answer of the code says
-abbrev pub answered : Result Values Refusal → Result State Refusal
+abbrev pub answered : {E : Type 0} → Result Values E → Result State E
 answered (Ok s) = Ok (held s)
 answered (Err e) = Err e

@@ -3,8 +3,11 @@ use mathlib.Core.List.{List, _++_}
 use Prim.Native.Nat.{ℕ}
 use lib.Chars.{codes}
 use Rattle.std.specs.Written.{decimal}
+use Rattle.std.specs.declared.option.Option.{Option}
+use Rattle.std.specs.declared.option.Option.the-variants.{Some}
 use Rattle.tasks.specs.declared.refusal.Cause.{Cause}
 use Rattle.tasks.specs.declared.refusal.Cause.the-variants.{FileLength, Layout, Counts, SpareBit, CutShort, ValueRange, VariableOrder, LeftOver, FloorSides, PointCount, PriceCount, CellClosed, PileFull, NotLive, MergeUnfit, GeneraliseUnfit, VariableUnfit, ListUnfit, ActionUnfit, AbstractUnfit, NoStep, BufferSizes, CannotRun, GoalMissed, BufferShort, PlanFile}
+use Rattle.tasks.specs.declared.refusal.Refusal.{Refusal}
 
 abbrev pub number : Cause → ℕ
 number FileLength = 1
@@ -72,6 +75,10 @@ word floor = codes "floor"
 word pile = codes "pile"
 word plan = codes "plan"
 word program = codes "program"
+
+-- what a check answers where it refuses
+abbrev pub refuse : Cause → ℕ → Option Refusal
+refuse cause place = Some (record { cause = cause; place = place })
 
 -- `refused NUMBER LAYER PLACE`
 abbrev pub line : Cause → ℕ → List ℕ

@@ -72,9 +72,9 @@ impl State {
     pub fn missed_goal<T: Task>(&self, task: &T) -> Option<u8>
         ensures { λ r. ⌜ r ≡ missed-goal (meant (now (task .entry))) (held (now (self .entry))) ⌝ }
     {
-        for v in 0..task.variables() {
-            if !self.agrees(v, task.goal(v)) {
-                return Some(v);
+        for variable in 0..task.variables() {
+            if !self.agrees(variable, task.goal(variable)) {
+                return Some(variable);
             }
         }
         None

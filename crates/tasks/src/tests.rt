@@ -16,6 +16,8 @@ use crate::measure::DepthMeasure;
 use crate::refusal::RefusalDebug;
 use crate::refusal::RefusalDisplay;
 use crate::refusal::RefusalPartialEq;
+use std::alloc::AllocError;
+use std::alloc::Global;
 use std::test::Fail;
 use std::test::check_eq;
 
@@ -140,45 +142,23 @@ fn an_action_that_cannot_run_is_refused_at_its_place() -> Result<(), Fail> {
     )
 }
 
+// The actions 0, 1, .. below n.
+fn below(heap: Global, n: u16) -> Result<Vec<u16>, AllocError> {
+    let mut all = Vec::new(heap);
+    for action in 0..n {
+        all.push(action)?;
+    }
+    Ok(all)
+}
+
 #[test]
-fn the_highest_goal_counts() -> Result<(), Fail> {
+fn the_highest_goal_counts(rt: LibcRuntime) -> Result<(), Fail> {
     let most = Switches { count: 32 };
-    let all = [
-        0,
-        1,
-        2,
-        3,
-        4,
-        5,
-        6,
-        7,
-        8,
-        9,
-        10,
-        11,
-        12,
-        13,
-        14,
-        15,
-        16,
-        17,
-        18,
-        19,
-        20,
-        21,
-        22,
-        23,
-        24,
-        25,
-        26,
-        27,
-        28,
-        29,
-        30,
-        31,
-    ];
     check_eq(
-        (charged(&most, &all[..31]), charged(&most, &all)),
+        (
+            charged(&most, &below(rt.alloc(), 31)?),
+            charged(&most, &below(rt.alloc(), 32)?),
+        ),
         (refused(Cause::GoalMissed, 31), Ok(2_096_624)),
     )
 }

@@ -9,12 +9,12 @@ pub returns-then-not-agrees : need.returns-then-not-agrees
 returns-then-not-agrees g c =
     let t = g .T·Task .meant (c .args .task .now) in
     let s = held (c .args .self .now) in
-    let here : agrees (t .goal (c .loop-v .v)) (s (c .loop-v .v)) ≡ false = cc in
-    sym (fails-at (λ v. agrees (t .goal v) (s v)) (t .vars) (c .loop-v .v) (omega (arith, c .variables-v-end .ensures)) (c .loop-v .inv) here)
+    let here : agrees (t .goal (c .loop-variable .variable)) (s (c .loop-variable .variable)) ≡ false = cc in
+    sym (fails-at (λ v. agrees (t .goal v) (s v)) (t .vars) (c .loop-variable .variable) (omega (arith, c .variables-variable-end .ensures)) (c .loop-variable .inv) here)
 
-pub loop-v-again : need.loop-v-again
-loop-v-again g c =
+pub loop-variable-again : need.loop-variable-again
+loop-variable-again g c =
     let t = g .T·Task .meant (c .args .task .now) in
     let s = held (c .args .self .now) in
-    let here : agrees (t .goal (c .loop-v .v)) (s (c .loop-v .v)) ≡ true = cc in
-    passing-more (λ v. agrees (t .goal v) (s v)) (c .loop-v .v) (c .loop-v .inv) here
+    let here : agrees (t .goal (c .loop-variable .variable)) (s (c .loop-variable .variable)) ≡ true = cc in
+    passing-more (λ v. agrees (t .goal v) (s v)) (c .loop-variable .variable) (c .loop-variable .inv) here

@@ -4,5 +4,5 @@ use Rattle.tasks.specs.Plans.{agrees, held}
 use Rattle.tasks.specs.Bounds.{first-failing}
 use Rattle.tasks.proofs.state.State.missed_goal.Given as given
 
-abbrev pub Inv-loop-v : given.InvT-loop-v
-Inv-loop-v g l = first-failing (l .v) (λ v. agrees (g .T·Task .meant (l .task) .goal v) (held (l .self) v)) ≡ None
+abbrev pub Inv-loop-variable : given.InvT-loop-variable
+Inv-loop-variable g l = first-failing (l .variable) (λ v. agrees (g .T·Task .meant (l .task) .goal v) (held (l .self) v)) ≡ None

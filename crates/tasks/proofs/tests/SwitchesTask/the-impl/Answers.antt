@@ -1,15 +1,12 @@
 use mathlib.Core.Path.{_≡_, refl}
-use mathlib.Core.Bool.{Bool, true, false, cond, _&&_}
+use mathlib.Core.Bool.{true, cond, _&&_}
 use Prim.Native.Nat.{ℕ, _≤_, _<_}
 use native.Mathlib.Omega.{arith}
 use lib.Dec.{eqb, ltb}
 use Rattle.std.specs.declared.option.Option.the-variants.{Some, None}
 use Rattle.std.proofs.shelf.Tests.{both-ways, and-parts, and-from, cond-false, cond-both, eqb-true, ltb-true, ltb-false, lt-ltb, le-ltb}
+use Rattle.tasks.proofs.Optional.{chosen}
 use Rattle.tasks.proofs.tests.SwitchesTask.the-impl.Needs as need
-
-chosen : (b : Bool) (c x : ℕ) → cond b (Some c) None ≡ Some x → (b ≡ true) × (c ≡ x)
-chosen true c x h = (refl, cc)
-chosen false c x h = let z : _≡_ {A = ℕ} 0 1 = cc in absurd (omega arith)
 
 -- what an action asks for or sets is a value of its own switch
 named : (n a v c x : ℕ) → c < 2 → cond (ltb a n && eqb a v) (Some c) None ≡ Some x → (ltb a n ≡ true) × ((ltb v n && ltb x 2) ≡ true)

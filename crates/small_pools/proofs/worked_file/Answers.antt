@@ -1,8 +1,9 @@
 use mathlib.Core.Path.{refl}
-use Rattle.small_pools.proofs.small_pools_hold.Needs as need
+use Rattle.small_pools.specs.Pools.{Small-pools}
+use Rattle.small_pools.proofs.worked_file.Needs as need
 
-pub returns : need.returns
-returns c = record {
+small-pools : Small-pools
+small-pools = record {
   opens = refl;
   counts = (refl, refl);
   cut-short = refl;
@@ -15,3 +16,6 @@ returns c = record {
   round = refl;
   straight = refl;
 }
+
+pub returns : need.returns
+returns c = record { result = c .bytes .ensures; examples = small-pools }
