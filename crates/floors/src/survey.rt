@@ -100,19 +100,15 @@ impl Survey {
     pub(crate) fn refusal(&self) -> Option<Refusal>
         ensures { λ r. ⌜ r ≡ refusal-of (pool-of (now (self .entry))) ⌝ }
     {
-        let cause = if !self.sides_fit() {
-            Cause::FloorSides
-        } else if self.points.len() > 31 {
-            Cause::PointCount
-        } else if self.prices.len() != usize::from(self.cells()) {
-            Cause::PriceCount
-        } else {
-            let place = self.closed_place()?;
-            return Some(Refusal {
-                cause: Cause::CellClosed,
-                place,
-            });
-        };
-        Some(Refusal { cause, place: 0 })
+        if !self.sides_fit() {
+            return Some(Cause::FloorSides.at(0));
+        }
+        if self.points.len() > 31 {
+            return Some(Cause::PointCount.at(0));
+        }
+        if self.prices.len() != usize::from(self.cells()) {
+            return Some(Cause::PriceCount.at(0));
+        }
+        Some(Cause::CellClosed.at(self.closed_place()?))
     }
 }

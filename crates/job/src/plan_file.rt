@@ -5,17 +5,13 @@ use crate::failure::Failure;
 use crate::failure::FailureFromRefused;
 use std::alloc::Global;
 use tasks::Cause;
-use tasks::Refusal;
 
 // Two bytes an action, most significant first.
 pub fn read_plan(heap: Global, bytes: &[u8]) -> Result<Vec<u16>, Failure>
     ensures { λ r. ⌜ Comes-to actions-in r (plan-read (now (bytes .entry))) ⌝ }
 {
     if bytes.len() % 2 != 0 || bytes.len() > 32768 {
-        return Err(Failure::Refused(Refusal {
-            cause: Cause::PlanFile,
-            place: 0,
-        }));
+        return Err(Failure::Refused(Cause::PlanFile.at(0)));
     }
     let mut plan = Vec::new(heap);
     for i in 0..bytes.len() / 2 {

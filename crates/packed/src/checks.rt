@@ -19,29 +19,23 @@ use tasks::Refusal;
 pub fn check_header(bytes: &[u8]) -> Result<Header, Refusal>
     ensures { λ r. ⌜ r ≡ unless (header-refusal (now (bytes .entry))) (record { bits = headerOf (now (bytes .entry)) }) ⌝ }
 {
-    let place = 0;
     if bytes.len() > 65536 {
-        let cause = Cause::FileLength;
-        return Err(Refusal { cause, place });
+        return Err(Cause::FileLength.at(0));
     }
     let [first, second, third, fourth, _rest @ ..] = bytes else {
-        let cause = Cause::FileLength;
-        return Err(Refusal { cause, place });
+        return Err(Cause::FileLength.at(0));
     };
     let header = Header {
         bits: u32::from_be_bytes([*first, *second, *third, *fourth]),
     };
     if header.layout() != 1 {
-        let cause = Cause::Layout;
-        return Err(Refusal { cause, place });
+        return Err(Cause::Layout.at(0));
     }
     if header.variables() > 32 || header.actions() > 512 {
-        let cause = Cause::Counts;
-        return Err(Refusal { cause, place });
+        return Err(Cause::Counts.at(0));
     }
     if header.spare() != 0 {
-        let cause = Cause::SpareBit;
-        return Err(Refusal { cause, place });
+        return Err(Cause::SpareBit.at(0));
     }
     Ok(header)
 }
@@ -52,17 +46,14 @@ fn check_variable(bytes: &[u8], variable: u8) -> Result<(), Refusal>
 {
     let place = 4 + 3 * usize::from(variable);
     if bytes.len() < place + 3 {
-        let cause = Cause::CutShort;
-        return Err(Refusal { cause, place });
+        return Err(Cause::CutShort.at(place));
     }
     let record = Variable::at(bytes, place);
     if record.spare() != 0 {
-        let cause = Cause::SpareBit;
-        return Err(Refusal { cause, place });
+        return Err(Cause::SpareBit.at(place));
     }
     if !record.values_fit() {
-        let cause = Cause::ValueRange;
-        return Err(Refusal { cause, place });
+        return Err(Cause::ValueRange.at(place));
     }
     Ok(())
 }
@@ -84,23 +75,19 @@ fn check_fact(bytes: &[u8], variables: u8, list: usize, index: u8) -> Result<(),
 {
     let place = list + 2 * usize::from(index);
     if bytes.len() < place + 2 {
-        let cause = Cause::CutShort;
-        return Err(Refusal { cause, place });
+        return Err(Cause::CutShort.at(place));
     }
     let fact = Fact::at(bytes, place);
     if fact.spare() != 0 {
-        let cause = Cause::SpareBit;
-        return Err(Refusal { cause, place });
+        return Err(Cause::SpareBit.at(place));
     }
     let ascends = index == 0 || Fact::at(bytes, place - 2).variable() < fact.variable();
     if fact.variable() >= variables || !ascends {
-        let cause = Cause::VariableOrder;
-        return Err(Refusal { cause, place });
+        return Err(Cause::VariableOrder.at(place));
     }
     let size = Variable::at(bytes, 4 + 3 * usize::from(fact.variable())).size();
     if fact.value() >= size {
-        let cause = Cause::ValueRange;
-        return Err(Refusal { cause, place });
+        return Err(Cause::ValueRange.at(place));
     }
     Ok(())
 }
@@ -123,13 +110,11 @@ fn check_action(bytes: &[u8], variables: u8, place: usize) -> Result<usize, Refu
     ensures { λ r. ⌜ r ≡ unless (action-refusal (now (bytes .entry)) place) (past-action (now (bytes .entry)) place) ⌝ }
 {
     if bytes.len() < place + 4 {
-        let cause = Cause::CutShort;
-        return Err(Refusal { cause, place });
+        return Err(Cause::CutShort.at(place));
     }
     let action = Action::at(bytes, place);
     if action.spare() != 0 {
-        let cause = Cause::SpareBit;
-        return Err(Refusal { cause, place });
+        return Err(Cause::SpareBit.at(place));
     }
     let effects = place + 4 + 2 * usize::from(action.preconditions());
     check_facts(bytes, variables, place + 4, action.preconditions())?;
@@ -166,10 +151,7 @@ fn check_records(bytes: &[u8]) -> Result<[u32; 512], Refusal>
     check_variables(bytes, header.variables())?;
     let places = check_actions(bytes, header)?;
     if places.end < bytes.len() {
-        return Err(Refusal {
-            cause: Cause::LeftOver,
-            place: places.end,
-        });
+        return Err(Cause::LeftOver.at(places.end));
     }
     Ok(places.offsets)
 }

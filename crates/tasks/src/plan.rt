@@ -31,16 +31,10 @@ fn judge<T: Task>(task: &T, plan: &[u16]) -> Result<State, Refusal>
 {
     let state = match run_all(task, plan) {
         Ok(state) => state,
-        Err(place) => {
-            let cause = Cause::CannotRun;
-            return Err(Refusal { cause, place });
-        }
+        Err(place) => return Err(Cause::CannotRun.at(place)),
     };
     match state.missed_goal(task) {
-        Some(variable) => Err(Refusal {
-            cause: Cause::GoalMissed,
-            place: usize::from(variable),
-        }),
+        Some(variable) => Err(Cause::GoalMissed.at(usize::from(variable))),
         None => Ok(state),
     }
 }

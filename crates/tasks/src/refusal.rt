@@ -94,6 +94,13 @@ impl Cause {
             Cause::PlanFile => "program",
         }
     }
+
+    // The refusal for this cause at a place.
+    pub fn at(self, place: usize) -> Refusal
+        ensures { λ r. ⌜ r ≡ record { cause = self; place = place } ⌝ }
+    {
+        Refusal { cause: self, place }
+    }
 }
 
 // A cause, and the place that it has: a byte, an index, a position or a variable; 0 where there is none to name.
