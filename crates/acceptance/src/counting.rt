@@ -5,7 +5,7 @@ ghost use Rattle.reductions.specs.Steps.{live_values};
 use tasks::Task;
 
 pub fn live_values<T: Task>(task: &T, variable: u8) -> u8
-    ensures { result ≡ live_values (meant task.now) variable ((meant task.now).size variable) }
+    ensures { result ≡ live_values (T.meant task.now) variable ((T.meant task.now).size variable) }
 {
     let mut count = 0;
     for value in 0..task.size(variable) {

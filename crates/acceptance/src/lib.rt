@@ -1,4 +1,6 @@
 // When a step is refused, on any priced task.
+#![tactic(auto)]
+
 ghost use Rattle.std.specs.Prelude.{◌≡◌};
 ghost use Rattle.tasks.specs.Task.{priced};
 ghost use Rattle.reductions.specs.Steps.{merge as merge_step, generalise as generalise_step, variable as variable_step, action as action_step, abstract as abstract_step};

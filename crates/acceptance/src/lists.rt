@@ -11,14 +11,14 @@ use tasks::Task;
 
 // Whether the other may stand in the list of the action: it is live and another.
 fn listable<T: Task>(task: &T, action: u16, other: u16) -> bool
-    ensures { result ≡ may_stand (meant task.now) action other }
+    ensures { result ≡ may_stand (T.meant task.now) action other }
 {
     task.action_live(other) && other != action
 }
 
 // The first action that may not stand in the list.
 pub fn first_unlisted<T: Task>(task: &T, action: u16, list: &[u16]) -> Option<usize>
-    ensures { result ≡ first_unlisted (meant task.now) action 0 list.now }
+    ensures { result ≡ first_unlisted (T.meant task.now) action 0 list.now }
 {
     for (place, other) in list.iter().enumerate() {
         if !listable(task, action, *other) {
@@ -30,7 +30,7 @@ pub fn first_unlisted<T: Task>(task: &T, action: u16, list: &[u16]) -> Option<us
 
 // What is known after the list, or nothing where one of its actions needs more than is known.
 fn known_after<T: Task>(task: &T, action: u16, list: &[u16]) -> Option<Known>
-    ensures { known_in result ≡ known_after (meant task.now) ((meant task.now).pre action) list.now }
+    ensures { known_in result ≡ known_after (T.meant task.now) ((T.meant task.now).pre action) list.now }
 {
     let mut known = Known::required_by(task, action);
     for other in list {
@@ -44,7 +44,7 @@ fn known_after<T: Task>(task: &T, action: u16, list: &[u16]) -> Option<Known>
 
 // Whether an action of the list sets the variable.
 fn is_set_by<T: Task>(task: &T, list: &[u16], variable: u8) -> bool
-    ensures { result ≡ is_set_by (meant task.now) list.now variable }
+    ensures { result ≡ is_set_by (T.meant task.now) list.now variable }
 {
     for other in list {
         if task.effect(*other, variable).is_some() {
@@ -56,7 +56,7 @@ fn is_set_by<T: Task>(task: &T, list: &[u16], variable: u8) -> bool
 
 // Whether the variable ends as after the action: with its effect, or as the action required it if only the list sets it.
 fn ends_alike<T: Task>(task: &T, action: u16, list: &[u16], known: &Known, variable: u8) -> bool
-    ensures { result ≡ stands_in ((meant task.now).eff action variable) ((meant task.now).pre action variable) (is_set_by (meant task.now) list.now variable) (knows known.now variable) }
+    ensures { result ≡ stands_in ((T.meant task.now).eff action variable) ((T.meant task.now).pre action variable) (is_set_by (T.meant task.now) list.now variable) (knows known.now variable) }
 {
     match task.effect(action, variable) {
         Some(value) => known.has(variable, value),
@@ -69,7 +69,7 @@ fn ends_alike<T: Task>(task: &T, action: u16, list: &[u16], known: &Known, varia
 }
 
 fn all_end_alike<T: Task>(task: &T, action: u16, list: &[u16], known: &Known) -> bool
-    ensures { result ≡ all_below (meant task.now).vars (λ w. stands_in ((meant task.now).eff action w) ((meant task.now).pre action w) (is_set_by (meant task.now) list.now w) (knows known.now w)) }
+    ensures { result ≡ all_below (T.meant task.now).vars (λ w. stands_in ((T.meant task.now).eff action w) ((T.meant task.now).pre action w) (is_set_by (T.meant task.now) list.now w) (knows known.now w)) }
 {
     for w in 0..task.variables() {
         if !ends_alike(task, action, list, known, w) {
@@ -81,7 +81,7 @@ fn all_end_alike<T: Task>(task: &T, action: u16, list: &[u16], known: &Known) ->
 
 // Whether the list stands in for the action.
 pub fn stands_in_for<T: Task>(task: &T, list: &[u16], action: u16) -> bool
-    ensures { result ≡ has_effect_of (meant task.now) action list.now (known_after (meant task.now) ((meant task.now).pre action) list.now) }
+    ensures { result ≡ has_effect_of (T.meant task.now) action list.now (known_after (T.meant task.now) ((T.meant task.now).pre action) list.now) }
 {
     match known_after(task, action, list) {
         Some(known) => all_end_alike(task, action, list, &known),

@@ -7,7 +7,7 @@ use tasks::Task;
 
 // Whether what the action says of w fits: the move itself on the variable, nothing on another.
 fn fits_move<T: Task>(task: &T, action: u16, variable: u8, from: u8, to: u8, w: u8) -> bool
-    ensures { result ≡ (if nat_eq w variable then has_value from ((meant task.now).pre action w) && has_value to ((meant task.now).eff action w) else unmentioned (meant task.now) action w) }
+    ensures { result ≡ (if nat_eq w variable then has_value from ((T.meant task.now).pre action w) && has_value to ((T.meant task.now).eff action w) else unmentioned (T.meant task.now) action w) }
 {
     match (task.precondition(action, w), task.effect(action, w)) {
         (Some(x), Some(y)) => w == variable && x == from && y == to,
@@ -18,7 +18,7 @@ fn fits_move<T: Task>(task: &T, action: u16, variable: u8, from: u8, to: u8, w: 
 
 // Whether the action requires the one value of the variable and sets the other, and mentions no other variable.
 pub fn is_move<T: Task>(task: &T, action: u16, variable: u8, from: u8, to: u8) -> bool
-    ensures { result ≡ is_move (meant task.now) action variable from to }
+    ensures { result ≡ is_move (T.meant task.now) action variable from to }
 {
     for w in 0..task.variables() {
         if !fits_move(task, action, variable, from, to, w) {

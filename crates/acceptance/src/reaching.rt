@@ -67,14 +67,14 @@ fn reachable_from(edges: &[Edge], size: u8, from: u8) -> [bool; 64]
 // Whether a value is marked or not live.
 fn passes<T: Task>(task: &T, variable: u8, marks: &[bool; 64], value: u8) -> bool
     requires { value < 64 }
-    ensures { result ≡ (not ((meant task.now).val_live variable value) || slice_index_or marks.now value false) }
+    ensures { result ≡ (not ((T.meant task.now).val_live variable value) || slice_index_or marks.now value false) }
 {
     !task.value_live(variable, value) || marks[value as usize]
 }
 
 // Whether every live value is marked.
 fn are_all_marked<T: Task>(task: &T, variable: u8, marks: &[bool; 64]) -> bool
-    ensures { result ≡ all_marked (meant task.now) variable marks.now }
+    ensures { result ≡ all_marked (T.meant task.now) variable marks.now }
 {
     for value in 0..task.size(variable) {
         if !passes(task, variable, marks, value) {

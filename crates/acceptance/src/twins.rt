@@ -19,7 +19,7 @@ pub fn same_value(x: Option<u8>, y: Option<u8>) -> bool
 
 // Whether w is the variable itself or the two say the same of it.
 fn agree_on<T: Task>(task: &T, variable: u8, action: u16, twin: u16, w: u8) -> bool
-    ensures { result ≡ (w == variable || (same_value ((meant task.now).pre action w) ((meant task.now).pre twin w) && same_value ((meant task.now).eff action w) ((meant task.now).eff twin w))) }
+    ensures { result ≡ (w == variable || (same_value ((T.meant task.now).pre action w) ((T.meant task.now).pre twin w) && same_value ((T.meant task.now).eff action w) ((T.meant task.now).eff twin w))) }
 {
     w == variable
         || (same_value(task.precondition(action, w), task.precondition(twin, w))
@@ -27,7 +27,7 @@ fn agree_on<T: Task>(task: &T, variable: u8, action: u16, twin: u16, w: u8) -> b
 }
 
 fn agree_except<T: Task>(task: &T, variable: u8, action: u16, twin: u16) -> bool
-    ensures { result ≡ agree_except (meant task.now) variable action twin }
+    ensures { result ≡ agree_except (T.meant task.now) variable action twin }
 {
     for w in 0..task.variables() {
         if !agree_on(task, variable, action, twin, w) {

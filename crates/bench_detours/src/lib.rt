@@ -1,5 +1,7 @@
 // What the benchmark in bench/ times: the detours between all cells of a floor. It is proved safe, and no contract says what
 // it answers: the benchmark compares that with what a plain Rust program answers.
+#![tactic(auto)]
+
 use detours::{Path, detour};
 use floors::{Floor, Survey};
 use std::alloc::Global;

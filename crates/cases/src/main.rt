@@ -1,4 +1,6 @@
 // Runs the case files and says how many of their cases hold.
+#![tactic(auto)]
+
 mod describing;
 mod reading;
 mod running;

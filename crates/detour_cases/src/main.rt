@@ -1,4 +1,6 @@
 // Runs the case file of detours and says how many of its cases hold.
+#![tactic(auto)]
+
 mod answering;
 mod reading;
 mod running;

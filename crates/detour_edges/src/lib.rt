@@ -1,3 +1,5 @@
 // The edges of detours: tests alone.
+#![tactic(auto)]
+
 #[cfg(test)]
 mod tests;

@@ -1,4 +1,6 @@
 // Detours of least total over the free actions of one variable.
+#![tactic(auto)]
+
 ghost use Rattle.std.specs.Prelude.{◌≡◌, length, replicate, if◌then◌else◌, None, nat_eq};
 ghost use Rattle.tasks.specs.Task.{priced};
 ghost use Rattle.detours.specs.Detours.{detour as due};

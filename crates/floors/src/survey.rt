@@ -65,8 +65,8 @@ impl Survey {
 
     // The cell that lies next to a cell of the floor, open or not.
     pub(crate) fn neighbour(&self, cell: u8, direction: Direction) -> Option<u8>
-        requires self_value { sides_fit (pool_of self.now) ≡ true }
-        requires cell_bound { cell < cell_count (pool_of self.now) }
+        requires sides { sides_fit (pool_of self.now) ≡ true }
+        requires within { cell < cell_count (pool_of self.now) }
         ensures { result ≡ neighbour_of (pool_of self.now) cell direction }
     {
         match direction {

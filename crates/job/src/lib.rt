@@ -1,4 +1,6 @@
 // What the program does with its two files, but for reading and printing.
+#![tactic(auto)]
+
 ghost use Rattle.packed.specs.Decoding.{decoded};
 ghost use Rattle.packed.specs.Files.{contents};
 ghost use Rattle.job.specs.Jobs.{job as due, plan_priced, plan_read};

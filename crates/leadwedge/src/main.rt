@@ -1,4 +1,6 @@
 // Reads task.bin and top.plan in its folder, and prints what the job makes of them.
+#![tactic(auto)]
+
 use anyhow::anyhow;
 use job::Failure;
 use std::fs;

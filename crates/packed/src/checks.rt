@@ -98,8 +98,8 @@ fn check_facts(bytes: &[u8], variables: u8, list: usize, count: u8) -> Result<()
 
 // The action whose record begins at a place. Answers where the next record begins.
 fn check_action(bytes: &[u8], variables: u8, place: usize) -> Result<usize, Refusal>
-    requires variables_value { (variables ≡ variables_of bytes.now) × ((variable_at bytes.now variables ≤ length bytes.now) × (length bytes.now ≤ 65536)) }
-    requires place_in_bounds { place ≤ length bytes.now }
+    requires counted { (variables ≡ variables_of bytes.now) × ((variable_at bytes.now variables ≤ length bytes.now) × (length bytes.now ≤ 65536)) }
+    requires within { place ≤ length bytes.now }
     ensures { result ≡ unless (action_refusal bytes.now place) (past_action bytes.now place) }
 {
     if bytes.len() < place + 4 {

@@ -1,4 +1,6 @@
 // Tasks from packed files.
+#![tactic(auto)]
+
 mod checks;
 pub mod file;
 mod records;

@@ -1,4 +1,6 @@
 // The five steps that reduce a task: what they are, and the theorems about them.
+#![tactic(auto)]
+
 pub mod step;
 pub mod theorems;
 

@@ -1,4 +1,6 @@
 // The worked examples.
+#![tactic(auto)]
+
 ghost use Rattle.std.specs.Prelude.{◌≡◌};
 ghost use Rattle.small_pools.specs.Pools.{file, SmallPools};
 

@@ -1,4 +1,6 @@
 // A task copied into plain rows, which takes steps.
+#![tactic(auto)]
+
 pub mod rows;
 pub mod table;
 

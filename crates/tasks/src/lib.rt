@@ -1,4 +1,6 @@
 // Planning tasks: what can be asked of one, how totals are measured, and what a plan of one is.
+#![tactic(auto)]
+
 pub mod measure;
 pub mod plan;
 pub mod refusal;

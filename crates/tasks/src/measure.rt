@@ -56,8 +56,8 @@ impl Measure for Charge {
     }
 
     fn join(x: u32, y: u32) -> u32
-        ensures value { result ≡ charge.join x y }
-        ensures value_2 { result ≡ min (x + y) 4294967295 }
+        ensures defined { result ≡ charge.join x y }
+        ensures plain { result ≡ min (x + y) 4294967295 }
     {
         x.saturating_add(y)
     }

@@ -12,7 +12,7 @@ use crate::task::{Priced, Task};
 
 // Runs each action of the list in turn: the state at the end, or the index of the first that cannot run.
 fn run_all<T: Task>(task: &T, list: &[u16]) -> Result<State, usize>
-    ensures { answered result ≡ ran_from (meant task.now) (meant task.now).init 0 list.now }
+    ensures { answered result ≡ ran_from (T.meant task.now) (T.meant task.now).init 0 list.now }
 {
     let mut state = State::initial(task);
     for (place, action) in list.iter().enumerate() {
@@ -26,7 +26,7 @@ fn run_all<T: Task>(task: &T, list: &[u16]) -> Result<State, usize>
 
 // What `check` answers.
 fn judge<T: Task>(task: &T, plan: &[u16]) -> Result<State, Refusal>
-    ensures { answered result ≡ checked (meant task.now) plan.now }
+    ensures { answered result ≡ checked (T.meant task.now) plan.now }
 {
     let state = match run_all(task, plan) {
         Ok(state) => state,
@@ -41,8 +41,8 @@ fn judge<T: Task>(task: &T, plan: &[u16]) -> Result<State, Refusal>
 // Refused at the index of the first action that cannot run, then at the lowest variable whose goal is missed;
 // otherwise the state at the end.
 pub fn check<T: Task>(task: &T, plan: &[u16]) -> Result<State, Refusal>
-    ensures result { answered result ≡ checked (meant task.now) plan.now }
-    ensures law { RunDecides (meant task.now) plan.now (answered result) }
+    ensures result { answered result ≡ checked (T.meant task.now) plan.now }
+    ensures law { RunDecides (T.meant task.now) plan.now (answered result) }
 {
     judge(task, plan)
 }

@@ -13,7 +13,7 @@ pub struct State {
 impl State {
     // The state in which every plan starts.
     pub fn initial<T: Task>(task: &T) -> State
-        ensures { held result ≡ (meant task.now).init }
+        ensures { held result ≡ (T.meant task.now).init }
     {
         let mut values = [0; 32];
         for v in 0..32 {
@@ -45,7 +45,7 @@ impl State {
 
     // Whether the action is live and all its preconditions hold.
     pub fn can_run<T: Task>(&self, task: &T, action: u16) -> bool
-        ensures { result ≡ can_run (meant task.now) (held self.now) action }
+        ensures { result ≡ can_run (T.meant task.now) (held self.now) action }
     {
         if !task.action_live(action) {
             return false;
@@ -60,7 +60,7 @@ impl State {
 
     // Sets the effects of the action.
     pub fn run<T: Task>(&mut self, task: &T, action: u16)
-        ensures { held self.new ≡ after (meant task.now) (held self.old) action }
+        ensures { held self.new ≡ after (T.meant task.now) (held self.old) action }
     {
         for v in 0..task.variables() {
             if let Some(y) = task.effect(action, v) {
@@ -71,7 +71,7 @@ impl State {
 
     // The lowest variable whose goal is missed.
     pub fn missed_goal<T: Task>(&self, task: &T) -> Option<u8>
-        ensures { result ≡ missed_goal (meant task.now) (held self.now) }
+        ensures { result ≡ missed_goal (T.meant task.now) (held self.now) }
     {
         for variable in 0..task.variables() {
             if !self.agrees(variable, task.goal(variable)) {

@@ -1,4 +1,6 @@
 // Undoing a step: what a plan of the task after it becomes in the task before.
+#![tactic(auto)]
+
 ghost use Rattle.std.specs.Prelude.{◌≡◌, length, replicate};
 ghost use Rattle.tasks.specs.Task.{priced};
 ghost use Rattle.reductions.specs.Undoing.{undone as undone_list, inserted as inserted_list};

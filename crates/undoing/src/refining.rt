@@ -11,7 +11,7 @@ use tasks::{Measure, Priced, Task};
 
 // What the variable has after the action, which ran with what it requires.
 fn value_after<T: Task>(task: &T, variable: u8, action: u16, value: u8) -> u8
-    ensures { result ≡ over ((meant task.now).eff action variable) (over ((meant task.now).pre action variable) value) }
+    ensures { result ≡ over ((T.meant task.now).eff action variable) (over ((T.meant task.now).pre action variable) value) }
 {
     if let Some(set) = task.effect(action, variable) {
         return set;

@@ -17,7 +17,7 @@ fn specialise_one<T: Task>(
     value: u8,
     other: u16,
 ) -> u16
-    ensures { result ≡ (if nat_eq other action && has_value value ((meant task.now).pre twin variable) then twin else other) }
+    ensures { result ≡ (if nat_eq other action && has_value value ((T.meant task.now).pre twin variable) then twin else other) }
 {
     match task.precondition(twin, variable) {
         Some(required) if other == action && value == required => twin,
@@ -27,7 +27,7 @@ fn specialise_one<T: Task>(
 
 // What the variable has after the action.
 fn value_set<T: Task>(task: &T, variable: u8, action: u16, value: u8) -> u8
-    ensures { result ≡ over ((meant task.now).eff action variable) value }
+    ensures { result ≡ over ((T.meant task.now).eff action variable) value }
 {
     match task.effect(action, variable) {
         Some(set) => set,
@@ -44,7 +44,7 @@ pub fn specialise<T: Task>(
     list: &[u16],
     out: &mut [u16],
 ) -> Option<usize>
-    ensures { Wrote out.old 0 (specialised (meant task.now) variable action twin ((meant task.now).init variable) list.now) out.new result }
+    ensures { Wrote out.old 0 (specialised (T.meant task.now) variable action twin ((T.meant task.now).init variable) list.now) out.new result }
 {
     let mut at = 0;
     let mut value = task.initial(variable);

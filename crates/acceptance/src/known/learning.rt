@@ -10,7 +10,7 @@ use tasks::Task;
 impl Known {
     // At first those are known that the action requires.
     pub fn required_by<T: Task>(task: &T, action: u16) -> Known
-        ensures { knows result ≡ (meant task.now).pre action }
+        ensures { knows result ≡ (T.meant task.now).pre action }
     {
         let mut values = [None; 32];
         for v in 0..32 {
@@ -51,7 +51,7 @@ impl Known {
 
     // Whether all that the action requires is known.
     pub fn allows<T: Task>(&self, task: &T, action: u16) -> bool
-        ensures { result ≡ all_below (meant task.now).vars (λ w. needs_known ((meant task.now).pre action w) (knows self.now w)) }
+        ensures { result ≡ all_below (T.meant task.now).vars (λ w. needs_known ((T.meant task.now).pre action w) (knows self.now w)) }
     {
         for w in 0..task.variables() {
             if !self.meets(w, task.precondition(action, w)) {
@@ -73,7 +73,7 @@ impl Known {
 
     // What the action sets is known then.
     pub fn learn<T: Task>(&mut self, task: &T, action: u16)
-        ensures { knows self.new ≡ (λ w. overridden ((meant task.now).eff action w) (knows self.old w)) }
+        ensures { knows self.new ≡ (λ w. overridden ((T.meant task.now).eff action w) (knows self.old w)) }
     {
         for v in 0..task.variables() {
             self.values[v as usize] = self.after(v, task.effect(action, v));

@@ -6,7 +6,7 @@ use Rattle.detours.proofs.detour.Goals as goal
 pub returns : goal.returns
 returns g c =
     let p = priced (g.T.Task.meant c.args.task.now) (g.T.Priced.tariff c.args.task.now) in
-    let exact = c.find-and-clear.ensures in
+    let exact = c.find_and_clear.ensures in
     record {
       result = exact.result;
       table = exact.table;

@@ -9,19 +9,19 @@ use Rattle.detours.proofs.find.Goals as goal
 pub begin-marks-requires : goal.begin-marks-requires
 begin-marks-requires g c = (c.requires, value_few _ (g.met.T.Task.lawful c.args.task.now) c.args.variable c.args.from (search rules))
 
-pub settle-all-requires : goal.settle-all-requires
-settle-all-requires g c = (
+pub settle_all-requires : goal.settle_all-requires
+settle_all-requires g c = (
   c.begin-marks.ensures.1,
-  subst (λ (es : List Edge). TargetsFit es) (sym (c.as-slice.ensures ∙ c.gather-edges.ensures)) (targets_fit _ (g.met.T.Task.lawful c.args.task.now) _ _ 0),
+  subst (λ (es : List Edge). TargetsFit es) (sym (c.as_slice.ensures ∙ c.gather-edges.ensures)) (targets_fit _ (g.met.T.Task.lawful c.args.task.now) _ _ 0),
 )
 
-pub read-off-requires : goal.read-off-requires
-read-off-requires g c = (c.settle-all.ensures.1, value_few _ (g.met.T.Task.lawful c.args.task.now) c.args.variable c.args.to (search rules))
+pub read_off-requires : goal.read_off-requires
+read_off-requires g c = (c.settle_all.ensures.1, value_few _ (g.met.T.Task.lawful c.args.task.now) c.args.variable c.args.to (search rules))
 
 pub returns : goal.returns
 returns g c =
     let t = g.T.Task.meant c.args.task.now in
     let p = priced t (g.T.Priced.tariff c.args.task.now) in (
-      found g.M.Measure.scale p c.args.variable c.args.from c.args.to _ _ _ _ (search rules) (search rules) (c.as-slice.ensures ∙ c.gather-edges.ensures) c.begin-marks.ensures.0 c.settle-all.ensures.0 c.read-off.ensures,
-      c.settle-all.ensures.1,
+      found g.M.Measure.scale p c.args.variable c.args.from c.args.to _ _ _ _ (search rules) (search rules) (c.as_slice.ensures ∙ c.gather-edges.ensures) c.begin-marks.ensures.0 c.settle_all.ensures.0 c.read_off.ensures,
+      c.settle_all.ensures.1,
     )

@@ -9,14 +9,14 @@ use tasks::{Priced, Task};
 
 // Whether w is the variable itself or the action does not mention it.
 fn leaves_alone<T: Task>(task: &T, variable: u8, action: u16, w: u8) -> bool
-    ensures { result ≡ (w == variable || unmentioned (meant task.now) action w) }
+    ensures { result ≡ (w == variable || unmentioned (T.meant task.now) action w) }
 {
     w == variable || (task.precondition(action, w).is_none() && task.effect(action, w).is_none())
 }
 
 // Whether the action sets the variable and mentions no other.
 fn is_free<T: Task>(task: &T, variable: u8, action: u16) -> bool
-    ensures { result ≡ is_free (meant task.now) variable action }
+    ensures { result ≡ is_free (T.meant task.now) variable action }
 {
     if !task.action_live(action) || task.effect(action, variable).is_none() {
         return false;

@@ -8,7 +8,7 @@ use crate::rows::Rows;
 use tasks::{Priced, Task};
 
 fn sizes<T: Task>(task: &T) -> [u8; 32]
-    ensures { (v : ℕ) → v < 32 → slice_index result v ≡ (meant task.now).size v }
+    ensures { (v : ℕ) → v < 32 → slice_index result v ≡ (T.meant task.now).size v }
 {
     let mut sizes = [0; 32];
     for v in 0..32 {
@@ -18,7 +18,7 @@ fn sizes<T: Task>(task: &T) -> [u8; 32]
 }
 
 fn live_variables<T: Task>(task: &T) -> [bool; 32]
-    ensures { (v : ℕ) → v < 32 → slice_index_or result v false ≡ (meant task.now).var_live v }
+    ensures { (v : ℕ) → v < 32 → slice_index_or result v false ≡ (T.meant task.now).var_live v }
 {
     let mut live = [false; 32];
     for v in 0..32 {
@@ -28,7 +28,7 @@ fn live_variables<T: Task>(task: &T) -> [bool; 32]
 }
 
 fn live_values_of<T: Task>(task: &T, variable: u8) -> [bool; 64]
-    ensures { (x : ℕ) → x < 64 → slice_index_or result x false ≡ (meant task.now).val_live variable x }
+    ensures { (x : ℕ) → x < 64 → slice_index_or result x false ≡ (T.meant task.now).val_live variable x }
 {
     let mut live = [false; 64];
     for value in 0..64 {
@@ -38,7 +38,7 @@ fn live_values_of<T: Task>(task: &T, variable: u8) -> [bool; 64]
 }
 
 fn live_values<T: Task>(task: &T) -> [[bool; 64]; 32]
-    ensures { (v : ℕ) → v < 32 → (x : ℕ) → x < 64 → slice_index_or (slice_index_or result v []) x false ≡ (meant task.now).val_live v x }
+    ensures { (v : ℕ) → v < 32 → (x : ℕ) → x < 64 → slice_index_or (slice_index_or result v []) x false ≡ (T.meant task.now).val_live v x }
 {
     let mut values = [[false; 64]; 32];
     for v in 0..32 {
@@ -48,7 +48,7 @@ fn live_values<T: Task>(task: &T) -> [[bool; 64]; 32]
 }
 
 fn initials<T: Task>(task: &T) -> [u8; 32]
-    ensures { (v : ℕ) → v < 32 → slice_index result v ≡ (meant task.now).init v }
+    ensures { (v : ℕ) → v < 32 → slice_index result v ≡ (T.meant task.now).init v }
 {
     let mut initials = [0; 32];
     for v in 0..32 {
@@ -58,7 +58,7 @@ fn initials<T: Task>(task: &T) -> [u8; 32]
 }
 
 fn goals<T: Task>(task: &T) -> [Option<u8>; 32]
-    ensures { (v : ℕ) → v < 32 → slice_index_or result v None ≡ (meant task.now).goal v }
+    ensures { (v : ℕ) → v < 32 → slice_index_or result v None ≡ (T.meant task.now).goal v }
 {
     let mut goals = [None; 32];
     for v in 0..32 {
@@ -68,7 +68,7 @@ fn goals<T: Task>(task: &T) -> [Option<u8>; 32]
 }
 
 fn live_actions<T: Task>(task: &T) -> [bool; 512]
-    ensures { (a : ℕ) → a < 512 → slice_index_or result a false ≡ (meant task.now).act_live a }
+    ensures { (a : ℕ) → a < 512 → slice_index_or result a false ≡ (T.meant task.now).act_live a }
 {
     let mut live = [false; 512];
     for a in 0..512 {
@@ -88,7 +88,7 @@ fn prices<T: Priced>(task: &T) -> [u16; 512]
 }
 
 fn preconditions_of<T: Task>(task: &T, action: u16) -> [Option<u8>; 32]
-    ensures { (v : ℕ) → v < 32 → slice_index_or result v None ≡ (meant task.now).pre action v }
+    ensures { (v : ℕ) → v < 32 → slice_index_or result v None ≡ (T.meant task.now).pre action v }
 {
     let mut preconditions = [None; 32];
     for v in 0..32 {
@@ -98,7 +98,7 @@ fn preconditions_of<T: Task>(task: &T, action: u16) -> [Option<u8>; 32]
 }
 
 fn preconditions<T: Task>(task: &T) -> [[Option<u8>; 32]; 512]
-    ensures { (a : ℕ) → a < 512 → (v : ℕ) → v < 32 → slice_index_or (slice_index_or result a []) v None ≡ (meant task.now).pre a v }
+    ensures { (a : ℕ) → a < 512 → (v : ℕ) → v < 32 → slice_index_or (slice_index_or result a []) v None ≡ (T.meant task.now).pre a v }
 {
     let mut preconditions = [[None; 32]; 512];
     for a in 0..512 {
@@ -108,7 +108,7 @@ fn preconditions<T: Task>(task: &T) -> [[Option<u8>; 32]; 512]
 }
 
 fn effects_of<T: Task>(task: &T, action: u16) -> [Option<u8>; 32]
-    ensures { (v : ℕ) → v < 32 → slice_index_or result v None ≡ (meant task.now).eff action v }
+    ensures { (v : ℕ) → v < 32 → slice_index_or result v None ≡ (T.meant task.now).eff action v }
 {
     let mut effects = [None; 32];
     for v in 0..32 {
@@ -118,7 +118,7 @@ fn effects_of<T: Task>(task: &T, action: u16) -> [Option<u8>; 32]
 }
 
 fn effects<T: Task>(task: &T) -> [[Option<u8>; 32]; 512]
-    ensures { (a : ℕ) → a < 512 → (v : ℕ) → v < 32 → slice_index_or (slice_index_or result a []) v None ≡ (meant task.now).eff a v }
+    ensures { (a : ℕ) → a < 512 → (v : ℕ) → v < 32 → slice_index_or (slice_index_or result a []) v None ≡ (T.meant task.now).eff a v }
 {
     let mut effects = [[None; 32]; 512];
     for a in 0..512 {

@@ -9,4 +9,4 @@ loop-edge-preserved g c = search (rules, edge_relaxed g.M.Measure.scale, edge_sk
 pub returns : goal.returns
 returns g c =
     let m = g.M.Measure.scale in
-    (sym (edges_end m c.args.value c.args.total c.args.edges.now c.loop-edge.edge_index (labels c.loop-edge.marks.of c.loop-edge.table) c.loop-edge-test.false) ∙ c.loop-edge.invariant.1, c.loop-edge.invariant.0)
+    (sym (edges_end m c.args.value c.args.total c.args.edges.now c.loop-edge.edge-index (labels c.loop-edge.marks.of c.loop-edge.table) c.loop-edge-test.false) ∙ c.loop-edge.invariant.1, c.loop-edge.invariant.0)

@@ -8,4 +8,4 @@ use Rattle.detours.proofs.search.settle_all.Given as goal
 abbrev pub invariant-loop-turn : goal.invariant-loop-turn
 invariant-loop-turn g l =
     let m = g.M.Measure.scale in
-    (length l.table ≡ 64) × (settle_edges m l.edges (most_values - l.-turn) (labels l.marks.of l.table) ≡ settle_edges m l.edges most_values (labels l.initial.marks.of l.initial.table))
+    (length l.table ≡ 64) × (settle_edges m l.edges (most_values - l._turn) (labels l.marks.of l.table) ≡ settle_edges m l.edges most_values (labels l.initial.marks.of l.initial.table))

@@ -3,4 +3,4 @@ use Rattle.packed.proofs.PackingLaw.{packing_decides}
 use Rattle.packed.proofs.checks.check.Goals as goal
 
 pub returns : goal.returns
-returns c = record { result = c.check-records.ensures; law = packing_decides c.args.bytes.now (λ k. omega (arith, c.type-inv.bytes k)) }
+returns c = record { result = c.check_records.ensures; law = packing_decides c.args.bytes.now (λ k. omega (arith, c.type_inv.bytes k)) }

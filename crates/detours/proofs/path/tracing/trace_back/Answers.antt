@@ -15,11 +15,11 @@ loop-turn-preserved g c = search (rules, turns_are, trace_more)
 pub returns : goal.returns
 returns g c =
     let ks = c.args.marks.now.of in
-    let left = most_values - c.loop-turn.-turn in
+    let left = most_values - c.loop-turn._turn in
     let done = drop c.loop-turn.first c.loop-turn.actions in
     let all : trace_marks ks c.args.from left c.loop-turn.value done ≡ done =
     elim c.loop-turn-test.branch [
-      | else-loop-turn-test w ↦ turns_last (λ n. trace_marks ks c.args.from n c.loop-turn.value done) c.loop-turn.-turn w.loop-turn-test.false
+      | else-loop-turn-test w ↦ turns_last (λ n. trace_marks ks c.args.from n c.loop-turn.value done) c.loop-turn._turn w.loop-turn-test.false
       | then-loop-turn-test+then-value-from w ↦ trace_ends ks c.args.from left c.loop-turn.value done (search rules)
     ] in
     ap (λ (list : List ℕ). record { actions = list; total = c.args.total }) (sym all ∙ c.loop-turn.invariant.2)
