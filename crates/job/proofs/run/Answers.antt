@@ -7,14 +7,14 @@ use Rattle.job.specs.Outcomes.{ComesTo, reported}
 use Rattle.job.proofs.Deciding.{decided}
 use Rattle.job.proofs.run.Goals as goal
 
-pub returns-in-err-file : goal.returns-in-err-file
-returns-in-err-file c = record {
+pub returns-in_err-file : goal.returns-in_err-file
+returns-in_err-file c = record {
   result = search rules;
-  law = decided (vec_items c.args.task) c.args.plan.now (λ k. omega (arith, c.type-inv.plan k)) _ c.open.ensures.result c.open.ensures.law;
+  law = decided (vec_items c.args.task) c.args.plan.now (λ k. omega (arith, c.type_inv.plan k)) _ c.open.ensures.result c.open.ensures.law;
 }
 
 pub returns : goal.returns
 returns c = record {
-  result = subst (λ (o : Result Priced Refusal). ComesTo reported c.price-plan.result (on_task o c.args.plan.now)) (sym (ap task_of c.in-ok-file.was) ∙ c.open.ensures.result) c.price-plan.ensures;
-  law = decided (vec_items c.args.task) c.args.plan.now (λ k. omega (arith, c.type-inv.plan k)) _ c.open.ensures.result c.open.ensures.law;
+  result = subst (λ (o : Result Priced Refusal). ComesTo reported c.price_plan.result (on_task o c.args.plan.now)) (sym (ap task_of c.in_ok-file.was) ∙ c.open.ensures.result) c.price_plan.ensures;
+  law = decided (vec_items c.args.task) c.args.plan.now (λ k. omega (arith, c.type_inv.plan k)) _ c.open.ensures.result c.open.ensures.law;
 }

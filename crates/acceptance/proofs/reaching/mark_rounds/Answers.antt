@@ -8,5 +8,5 @@ loop-round-init c = rounds_first c.args.edges.now c.args.rounds c.args.marks.now
 pub loop-round-preserved : goal.loop-round-preserved
 loop-round-preserved c = search (rules, round_more)
 
-pub returns-then-not-mark-targets : goal.returns-then-not-mark-targets
-returns-then-not-mark-targets c = round_last c.args.edges.now c.args.rounds c.loop-round.-round c.loop-round.marks c.mark_targets.new.marks c.args.marks.now c.loop-round.invariant c.mark_targets.ensures.0 (c.mark_targets.ensures.1 c.if-not-mark-targets.true)
+pub returns-then-not-mark_targets : goal.returns-then-not-mark_targets
+returns-then-not-mark_targets c = round_last c.args.edges.now c.args.rounds c.loop-round._round c.loop-round.marks c.mark_targets.new.marks c.args.marks.now c.loop-round.invariant c.mark_targets.ensures.0 (c.mark_targets.ensures.1 c.if-not-mark_targets.true)

@@ -8,8 +8,8 @@ use Rattle.acceptance.specs.Marking.{mark_rounds}
 use Rattle.acceptance.proofs.GatheredMarks.{marks_are}
 use Rattle.acceptance.proofs.reaching.reaches_all.Goals as goal
 
-pub reachable-from-marks-requires : goal.reachable-from-marks-requires
-reachable-from-marks-requires g c = (
+pub reachable_from-marks-requires : goal.reachable_from-marks-requires
+reachable_from-marks-requires g c = (
   subst (λ (es : List Edge). TargetsFit es) (sym c.requires.0) (targets_fit (priced (g.T.Task.meant c.args.task.now) (g.T.Priced.tariff c.args.task.now)) (g.met.T.Task.lawful c.args.task.now) c.args.variable _ 0),
   c.requires.1,
 )
@@ -20,5 +20,5 @@ returns g c =
     let p = priced t (g.T.Priced.tariff c.args.task.now) in
     let v = c.args.variable in
     let start = set (replicate 64 false) c.args.from true in
-    let marks = marks_are p v c.args.edges.now (t.size v) start c.reachable-from-marks.result c.requires.0 (c.reachable-from-marks.ensures ∙ ap (λ (n : ℕ). mark_rounds c.args.edges.now n start) c.size.ensures) in
-    c.are-all-marked.ensures ∙ ap (all_marked t v) marks ∙ sym (ap (λ (b : Bool). not b || all_marked t v (reachable_from t v c.args.from)) (sym c.if-not-value-live.ensures))
+    let marks = marks_are p v c.args.edges.now (t.size v) start c.reachable_from-marks.result c.requires.0 (c.reachable_from-marks.ensures ∙ ap (λ (n : ℕ). mark_rounds c.args.edges.now n start) c.size.ensures) in
+    c.are_all_marked.ensures ∙ ap (all_marked t v) marks ∙ sym (ap (λ (b : Bool). not b || all_marked t v (reachable_from t v c.args.from)) (sym c.if-not-value_live.ensures))

@@ -9,8 +9,8 @@ use Rattle.undoing.specs.Writing.{StandsAt, Wrote}
 use Rattle.undoing.proofs.RefineLoop.{refine_more, refine_fails, action_fails, refine_end, inserted_more, inserted_end}
 use Rattle.undoing.proofs.refining.refine.Goals as goal
 
-pub returns-in-err-brought : goal.returns-in-err-brought
-returns-in-err-brought g c =
+pub returns-in_err-brought : goal.returns-in_err-brought
+returns-in_err-brought g c =
     let m = g.M.Measure.scale in
     let t = g.T.Task.meant c.args.task.now in
     let p = priced t (g.T.Priced.tariff c.args.task.now) in
@@ -18,15 +18,15 @@ returns-in-err-brought g c =
     let value = c.loop-action.value in
     let i = c.loop-action.action-index in
     let after = c.insert.new.out in
-    let got = c.in-err-brought.ensures in
+    let got = c.in_err-brought.ensures in
     let fails = subst (λ (o : Option ℕ). Wrote c.loop-action.out c.loop-action.at (connect by value o) after None) c.precondition.ensures got.0 in (
-      subst (λ (o : Option (Undone g.row.M-Total.Denot)). Refined m p c.args.variable c.args.by c.args.list.now c.args.out.now after o) (sym c.from-residual.ensures)
+      subst (λ (o : Option (Undone g.row.M-Total.Denot)). Refined m p c.args.variable c.args.by c.args.list.now c.args.out.now after o) (sym c.from_residual.ensures)
           (c.loop-action.invariant.2 after None (refine_fails by t c.args.variable c.args.list.now i value c.loop-action-test.true c.loop-action.out c.loop-action.at after fails)),
       got.1,
     )
 
-pub returns-in-err-at : goal.returns-in-err-at
-returns-in-err-at g c =
+pub returns-in_err-at : goal.returns-in_err-at
+returns-in_err-at g c =
     let m = g.M.Measure.scale in
     let t = g.T.Task.meant c.args.task.now in
     let p = priced t (g.T.Priced.tariff c.args.task.now) in
@@ -34,10 +34,10 @@ returns-in-err-at g c =
     let value = c.loop-action.value in
     let i = c.loop-action.action-index in
     let after = c.push.new.out in
-    let got = c.in-ok-brought.ensures in
-    let wrote = subst (λ (o : Option ℕ). StandsAt c.loop-action.out c.loop-action.at (connect by value o) c.insert.new.out c.in-ok-brought.brought.length) c.precondition.ensures got.0.0 in (
-      subst (λ (o : Option (Undone g.row.M-Total.Denot)). Refined m p c.args.variable c.args.by c.args.list.now c.args.out.now after o) (sym c.from-residual-in-err-at.ensures)
-          (c.loop-action.invariant.2 after None (action_fails by t c.args.variable c.args.list.now i value c.loop-action-test.true c.loop-action.out c.loop-action.at c.insert.new.out c.in-ok-brought.brought.length after wrote c.in-err-at.ensures)),
+    let got = c.in_ok-brought.ensures in
+    let wrote = subst (λ (o : Option ℕ). StandsAt c.loop-action.out c.loop-action.at (connect by value o) c.insert.new.out c.in_ok-brought.brought.length) c.precondition.ensures got.0.0 in (
+      subst (λ (o : Option (Undone g.row.M-Total.Denot)). Refined m p c.args.variable c.args.by c.args.list.now c.args.out.now after o) (sym c.from_residual-in_err-at.ensures)
+          (c.loop-action.invariant.2 after None (action_fails by t c.args.variable c.args.list.now i value c.loop-action-test.true c.loop-action.out c.loop-action.at c.insert.new.out c.in_ok-brought.brought.length after wrote c.in_err-at.ensures)),
       got.1,
     )
 
@@ -49,29 +49,29 @@ loop-action-preserved g c =
     let by = connector_of m p c.args.variable c.args.by in
     let value = c.loop-action.value in
     let i = c.loop-action.action-index in
-    let got = c.in-ok-brought.ensures in
-    let put = c.in-ok-at.ensures in
-    let wrote = subst (λ (o : Option ℕ). StandsAt c.loop-action.out c.loop-action.at (connect by value o) c.insert.new.out c.in-ok-brought.brought.length) c.precondition.ensures got.0.0 in
+    let got = c.in_ok-brought.ensures in
+    let put = c.in_ok-at.ensures in
+    let wrote = subst (λ (o : Option ℕ). StandsAt c.loop-action.out c.loop-action.at (connect by value o) c.insert.new.out c.in_ok-brought.brought.length) c.precondition.ensures got.0.0 in
     let costs = got.0.1 ∙ ap (λ (o : Option ℕ). total m p (connect by value o)) c.precondition.ensures in
-    let later = c.value-after-value.ensures in (
+    let later = c.value_after-value.ensures in (
       got.1,
       omega (arith, put.within, put.same_length),
-      λ after o rest. c.loop-action.invariant.2 after o (refine_more by t c.args.variable c.args.list.now i value c.loop-action-test.true c.loop-action.out c.loop-action.at c.insert.new.out c.in-ok-brought.brought.length c.push.new.out c.in-ok-at.at wrote put c.value-after-value.result later after o rest),
-      ap (λ (x : g.row.M-Total.Denot). m.join x (total m p (insertions by t c.args.variable c.value-after-value.result (drop (i + 1) c.args.list.now)))) (c.join-inserted.ensures ∙ ap (m.join c.loop-action.inserted) costs)
-          ∙ inserted_more by t c.args.variable c.args.list.now i value c.loop-action-test.true m g.met.M.Measure.lawful p c.loop-action.inserted _ c.loop-action.invariant.3 c.value-after-value.result later,
+      λ after o rest. c.loop-action.invariant.2 after o (refine_more by t c.args.variable c.args.list.now i value c.loop-action-test.true c.loop-action.out c.loop-action.at c.insert.new.out c.in_ok-brought.brought.length c.push.new.out c.in_ok-at.at wrote put c.value_after-value.result later after o rest),
+      ap (λ (x : g.row.M-Total.Denot). m.join x (total m p (insertions by t c.args.variable c.value_after-value.result (drop (i + 1) c.args.list.now)))) (c.join-inserted.ensures ∙ ap (m.join c.loop-action.inserted) costs)
+          ∙ inserted_more by t c.args.variable c.args.list.now i value c.loop-action-test.true m g.met.M.Measure.lawful p c.loop-action.inserted _ c.loop-action.invariant.3 c.value_after-value.result later,
     )
 
-pub returns-in-err-brought-2 : goal.returns-in-err-brought-2
-returns-in-err-brought-2 g c =
+pub returns-in_err-brought-2 : goal.returns-in_err-brought-2
+returns-in_err-brought-2 g c =
     let m = g.M.Measure.scale in
     let t = g.T.Task.meant c.args.task.now in
     let p = priced t (g.T.Priced.tariff c.args.task.now) in
     let by = connector_of m p c.args.variable c.args.by in
     let value = c.loop-action.value in
     let after = c.insert-2.new.out in
-    let got = c.in-err-brought-2.ensures in
+    let got = c.in_err-brought-2.ensures in
     let fails = subst (λ (o : Option ℕ). Wrote c.loop-action.out c.loop-action.at (connect by value o) after None) c.goal.ensures got.0 in (
-      subst (λ (o : Option (Undone g.row.M-Total.Denot)). Refined m p c.args.variable c.args.by c.args.list.now c.args.out.now after o) (sym c.from-residual-in-err-brought-2.ensures)
+      subst (λ (o : Option (Undone g.row.M-Total.Denot)). Refined m p c.args.variable c.args.by c.args.list.now c.args.out.now after o) (sym c.from_residual-in_err-brought-2.ensures)
           (c.loop-action.invariant.2 after None (refine_end by t c.args.variable c.args.list.now c.loop-action.action-index value c.loop-action-test.false c.loop-action.out c.loop-action.at after None fails)),
       got.1,
     )
@@ -84,8 +84,8 @@ returns g c =
     let by = connector_of m p c.args.variable c.args.by in
     let value = c.loop-action.value in
     let after = c.insert-2.new.out in
-    let end = c.in-ok-brought-2.brought.length in
-    let got = c.in-ok-brought-2.ensures in
+    let end = c.in_ok-brought-2.brought.length in
+    let got = c.in_ok-brought-2.ensures in
     let wrote = subst (λ (o : Option ℕ). StandsAt c.loop-action.out c.loop-action.at (connect by value o) after end) c.goal.ensures got.0.0 in
     let costs = got.0.1 ∙ ap (λ (o : Option ℕ). total m p (connect by value o)) c.goal.ensures in (
       (

@@ -3,18 +3,18 @@ use Rattle.undoing.specs.Writing.{Wrote}
 use Rattle.undoing.proofs.WritingOn.{item_written, item_fails, items_end}
 use Rattle.undoing.proofs.writing.push_all.Goals as goal
 
-pub returns-in-err-end : goal.returns-in-err-end
-returns-in-err-end c =
+pub returns-in_err-end : goal.returns-in_err-end
+returns-in_err-end c =
     let list = c.args.list.now in
     let after = c.push.new.out in
-    subst (λ (o : Option ℕ). Wrote c.args.out.now c.args.at list after o) (sym c.from-residual.ensures)
-    (c.loop-action.invariant.1 after None (item_fails list c.loop-action.out c.loop-action.end c.loop-action.action-index c.loop-action-test.true after c.in-err-end.ensures))
+    subst (λ (o : Option ℕ). Wrote c.args.out.now c.args.at list after o) (sym c.from_residual.ensures)
+    (c.loop-action.invariant.1 after None (item_fails list c.loop-action.out c.loop-action.end c.loop-action.action-index c.loop-action-test.true after c.in_err-end.ensures))
 
 pub loop-action-preserved : goal.loop-action-preserved
 loop-action-preserved c =
-    let wrote = c.in-ok-end.ensures in (
+    let wrote = c.in_ok-end.ensures in (
       omega (arith, wrote.within, wrote.same_length),
-      λ after o rest. c.loop-action.invariant.1 after o (item_written c.args.list.now c.loop-action.out c.loop-action.end c.loop-action.action-index c.loop-action-test.true c.push.new.out c.in-ok-end.end wrote after o rest),
+      λ after o rest. c.loop-action.invariant.1 after o (item_written c.args.list.now c.loop-action.out c.loop-action.end c.loop-action.action-index c.loop-action-test.true c.push.new.out c.in_ok-end.end wrote after o rest),
     )
 
 pub returns : goal.returns

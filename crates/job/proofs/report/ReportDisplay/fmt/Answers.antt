@@ -11,12 +11,12 @@ pub loop-action-preserved : goal.loop-action-preserved
 loop-action-preserved g c = λ plain.
     let so_far = c.loop-action.invariant plain in
     let xs = c.deref-action-items.result.now in
-    let line = c.write-in-loop-action.ensures.writes so_far.plain (ap is_ok c.in-ok-write-2.was) in
+    let line = c.write-in-loop-action.ensures.writes so_far.plain (ap is_ok c.in_ok-write-2.was) in
     has_written_of_eq g.W.Write.write_str_gives _ _ _ _ (lines_more xs c.loop-action.action-index c.loop-action-test.true) (has_written_append g.W.Write.write_str_gives _ (action_lines (take c.loop-action.action-index xs)) _ _ _ so_far line)
 
 pub returns-clause-writes : goal.returns-clause-writes
 returns-clause-writes g c = λ plain _.
-    let head = c.write.ensures.writes plain (ap is_ok c.in-ok-write.was) in
+    let head = c.write.ensures.writes plain (ap is_ok c.in_ok-write.was) in
     let plan = vec_items c.args.self.now.plan in
     let lines = has_written_of_eq g.W.Write.write_str_gives _ _ _ _ (lines_all plan c.deref-action-items.result.now c.loop-action.action-index c.deref-action-items.ensures.value c.loop-action-test.false) (c.loop-action.invariant head.plain) in
     let total = c.args.self.now.total in

@@ -16,10 +16,10 @@ apply-requires c =
     let none : refusal_of p s ≡ None = search rules in
     (∥∥₁_elim c.args.self.now.lawful (lawful_prop (task_in c.args.self.now.rows)) (λ h. h), accepted_at p s none)
 
-pub invariant-of-self : goal.invariant-of-self
-invariant-of-self c =
+pub invariant_of-self : goal.invariant_of-self
+invariant_of-self c =
     let p = tabled c.args.self.now.rows in
     let s = step_of c.args.step.now in
     let none : refusal_of p s ≡ None = search rules in
     let law = ∥∥₁_elim c.args.self.now.lawful (lawful_prop (task_in c.args.self.now.rows)) (λ h. h) in
-    (∣ subst (λ (q : Priced). Lawful q.task) (sym c.apply.ensures) (steps_keep_lawful p s law (accepted_at p s none)) ∣₁, tt)
+    record { lawful = ∣ subst (λ (q : Priced). Lawful q.task) (sym c.apply.ensures) (steps_keep_lawful p s law (accepted_at p s none)) ∣₁ }
