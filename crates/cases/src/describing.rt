@@ -1,10 +1,15 @@
 // What a task answers, as the case files write it.
-use std::fmt;
+use std::alloc::AllocError;
 use std::fmt::Write;
 use tasks::{Priced, Task};
 
 // The values that are given to variables: `0=1,3=0`.
-fn facts<T: Task>(out: &mut String, task: &T, action: u16, effects: bool) -> fmt::Result {
+fn facts<T: Task>(
+    out: &mut String,
+    task: &T,
+    action: u16,
+    effects: bool,
+) -> Result<(), AllocError> {
     let mut none = true;
     for v in 0..task.variables() {
         let fact = if effects {
@@ -21,7 +26,7 @@ fn facts<T: Task>(out: &mut String, task: &T, action: u16, effects: bool) -> fmt
     if none { write!(out, "-") } else { Ok(()) }
 }
 
-fn values<T: Task>(out: &mut String, task: &T, variable: u8) -> fmt::Result {
+fn values<T: Task>(out: &mut String, task: &T, variable: u8) -> Result<(), AllocError> {
     let mut none = true;
     for x in 0..task.size(variable) {
         if task.value_live(variable, x) {
@@ -33,7 +38,7 @@ fn values<T: Task>(out: &mut String, task: &T, variable: u8) -> fmt::Result {
     if none { write!(out, "-") } else { Ok(()) }
 }
 
-fn variable<T: Task>(out: &mut String, task: &T, v: u8) -> fmt::Result {
+fn variable<T: Task>(out: &mut String, task: &T, v: u8) -> Result<(), AllocError> {
     let size = task.size(v);
     if !task.variable_live(v) {
         return writeln!(out, "var {v} retired");
@@ -49,7 +54,7 @@ fn variable<T: Task>(out: &mut String, task: &T, v: u8) -> fmt::Result {
     writeln!(out, "")
 }
 
-fn action<T: Priced>(out: &mut String, task: &T, a: u16) -> fmt::Result {
+fn action<T: Priced>(out: &mut String, task: &T, a: u16) -> Result<(), AllocError> {
     if !task.action_live(a) {
         return writeln!(out, "act {a} retired");
     }
@@ -61,7 +66,7 @@ fn action<T: Priced>(out: &mut String, task: &T, a: u16) -> fmt::Result {
     writeln!(out, "")
 }
 
-pub fn task<T: Priced>(out: &mut String, task: &T) -> fmt::Result {
+pub fn task<T: Priced>(out: &mut String, task: &T) -> Result<(), AllocError> {
     let variables = task.variables();
     let actions = task.actions();
     writeln!(out, "ok {variables} {actions}")?;

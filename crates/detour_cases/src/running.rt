@@ -2,8 +2,7 @@
 use crate::{answering, reading};
 use floors::Floor;
 use packed::File;
-use std::alloc::Global;
-use std::fmt;
+use std::alloc::{AllocError, Global};
 use std::fmt::Write;
 use tasks::Refusal;
 
@@ -49,7 +48,7 @@ impl Runner {
         self.all
     }
 
-    fn refuse(&mut self, refusal: Refusal) -> fmt::Result {
+    fn refuse(&mut self, refusal: Refusal) -> Result<(), AllocError> {
         self.subject = Subject::Nothing;
         writeln!(&mut self.said, "{refusal}")
     }
