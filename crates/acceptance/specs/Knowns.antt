@@ -1,5 +1,5 @@
 -- What the code knows of each variable.
-use Rattle.std.specs.Prelude.{ℕ, Some, None, Option, slice_index_or}
+use Rattle.std.specs.Prelude.{Some, None, Option, slice_index_or}
 use Rattle.reductions.specs.Steps.{Known}
 use Rattle.acceptance.specs.declared.known.Known.{Known as Array}
 

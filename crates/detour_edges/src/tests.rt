@@ -114,7 +114,8 @@ fn an_action_without_a_precondition_leads_from_every_value(rt: HostRuntime) -> R
     ];
     let file = graph(rt.alloc(), 4, &arrows)?;
     check_path(&rt, charge(&file, 4, 2), 5, &[0])?;
-    check_path(&rt, charge(&file, 1, 3), 5, &[0, 2, 3]).note("prices of 0")?;
+    // prices of 0
+    check_path(&rt, charge(&file, 1, 3), 5, &[0, 2, 3])?;
     check_path(&rt, charge(&file, 4, 1), 11, &[0, 2, 1])?;
     check_path(&rt, depth(&file, 4, 1), 6, &[0, 2, 1])?;
     assert!(rt; charge(&file, 0, 4).is_none(), "nothing sets 4");
@@ -127,7 +128,8 @@ fn a_ring_is_gone_round_the_cheaper_way(rt: HostRuntime) -> Result<(), Fail> {
     let list = round(heap, 0)?;
     check_path(&rt, charge(&ring(heap, 1, 64)?, 0, 63), 63, &list)?;
     check_path(&rt, charge(&ring(heap, 1, 62)?, 0, 63), 62, &[64])?;
-    check_path(&rt, charge(&ring(heap, 1, 63)?, 0, 63), 63, &[64]).note("what was first stays")?;
+    // what was first stays
+    check_path(&rt, charge(&ring(heap, 1, 63)?, 0, 63), 63, &[64])?;
     check_path(&rt, depth(&ring(heap, 1, 2)?, 0, 63), 1, &list)
 }
 

@@ -1,5 +1,5 @@
 -- What a call of undoing comes to, from what was written.
-use Rattle.std.proofs.Common.{◌≡◌, ℕ, ◌+◌, ◌-◌, Bool, false, cond, eqb, leb, List, ◌++◌, length, drop, replicate, Some, None, Ok, Err, sym, ap, ◌∙◌, ap₂, arith, le-leb}
+use Rattle.std.proofs.Common.{◌≡◌, ℕ, ◌-◌, Bool, false, cond, eqb, leb, List, ◌++◌, length, drop, replicate, Some, None, Ok, Err, sym, ap, ◌∙◌, ap₂, arith, le-leb}
 use borrow.Author.Tests.{lt-leb}
 use Rattle.std.proofs.lemmas.Bool.{eq-eqb}
 use Rattle.std.proofs.lemmas.List.{take-append-drop, length-replicate, drop-replicate}
