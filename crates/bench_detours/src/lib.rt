@@ -5,7 +5,7 @@
 use detours::{Path, detour};
 use floors::{Floor, Survey};
 use std::alloc::Global;
-use tasks::{Charge, Task};
+use tasks::Charge;
 
 // A digest with one number more.
 fn mixed(digest: u64, number: u64) -> u64 {

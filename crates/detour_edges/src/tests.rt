@@ -5,7 +5,7 @@ use std::alloc::{AllocError, Global};
 use std::fmt::Debug;
 use std::process::Abort;
 use std::test::Fail;
-use tasks::{Charge, Depth, Priced, Task, check_total, total};
+use tasks::{Charge, Depth, Priced, check_total, total};
 
 // An action of the one variable of a file: the value that it requires, if any, the one that it sets, and its price.
 type Arrow = (Option<u8>, u8, u16);
@@ -208,7 +208,7 @@ fn what_is_not_live_or_cut_off_has_no_detour(rt: HostRuntime) -> Result<(), Fail
         (1, 0, 1),
     ] {
         assert!(rt;
-            detour::<Floor, Charge>(&floor, variable, from, to, &mut [0; 64],).is_none(),
+            detour::<Floor, Charge>(&floor, variable, from, to, &mut [0; 64]).is_none(),
             "variable {variable} from {from} to {to}"
         );
     }
