@@ -1,5 +1,5 @@
 -- What the laws of a cost algebra give, for totals of lists.
-use Rattle.std.proofs.Common.{◌≡◌, ℕ, true, false, List, [], ◌∷◌, ◌++◌, sym, refl, ap, ◌∙◌, subst, ap₂, ⊎_elim}
+use Rattle.std.proofs.Common.{fold, ◌≡◌, ℕ, true, false, List, [], ◌∷◌, ◌++◌, sym, refl, ap, ◌∙◌, subst, ap₂, ⊎_elim}
 use Rattle.std.proofs.lemmas.Bool.{both_ways}
 use Rattle.tasks.specs.Task.{Priced}
 use Rattle.tasks.specs.Measures.{CostAlgebra, CostLaws}
@@ -28,9 +28,13 @@ module _ {S : Type 0} (m : CostAlgebra S) (laws : CostLaws m) where
   total_append p [] ys = sym (laws.neutral (total m p ys))
   total_append p (x ∷ xs) ys = ap (m.join (m.weight (p.price x))) (total_append p xs ys) ∙ sym (laws.assoc (m.weight (p.price x)) (total m p xs) (total m p ys))
 
-  -- one action more at the end
-  pub total_push : (p : Priced) (xs : List ℕ) (a : ℕ) → total m p (xs ++ (a ∷ [])) ≡ m.join (total m p xs) (m.weight (p.price a))
-  total_push p xs a = total_append p xs (a ∷ []) ∙ ap (m.join (total m p xs)) (join_nothing (m.weight (p.price a)))
+  -- joined from the first on, with what was joined before
+  total_from : (p : Priced) (x : S) (xs : List ℕ) → fold (λ sum a. m.join sum (m.weight (p.price a))) x xs ≡ m.join x (total m p xs)
+  total_from p x [] = sym (join_nothing x)
+  total_from p x (a ∷ xs) = total_from p (m.join x (m.weight (p.price a))) xs ∙ laws.assoc x (m.weight (p.price a)) (total m p xs)
+
+  pub total_folded : (p : Priced) (xs : List ℕ) (init r : S) → r ≡ fold (λ sum a. m.join sum (m.weight (p.price a))) init xs → init ≡ m.nothing → r ≡ total m p xs
+  total_folded p xs init r e nothing = e ∙ total_from p init xs ∙ ap (λ x. m.join x (total m p xs)) nothing ∙ laws.neutral (total m p xs)
 
   -- where live actions keep their price, so does a list of them
   pub total_priced : (p q : Priced) → ((a : ℕ) → q.task.act_live a ≡ true → p.price a ≡ q.price a) → (xs : List ℕ) → AllLive q.task xs → total m p xs ≡ total m q xs

@@ -5,3 +5,4 @@ pub mod Lawful
 pub mod Running
 pub mod Checking
 pub mod CostAlgebras
+pub mod Counted

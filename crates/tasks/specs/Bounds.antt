@@ -1,10 +1,15 @@
 -- Tests and answers over the numbers below a bound.
-use Rattle.std.specs.Prelude.{ℕ, zero, suc, Bool, true, cond, ◌&&◌, Some, None, Option}
+use Rattle.std.specs.Prelude.{ℕ, zero, suc, ◌+◌, Bool, true, cond, ◌&&◌, Some, None, Option}
 
 -- a test of every number below n
 abbrev pub all_below : ℕ → (ℕ → Bool) → Bool
 all_below zero p = true
 all_below (suc n) p = all_below n p && p n
+
+-- how many numbers below n pass a test
+abbrev pub count_below : ℕ → (ℕ → Bool) → ℕ
+count_below zero p = 0
+count_below (suc n) p = cond (p n) 1 0 + count_below n p
 
 -- the first of f 0, f 1, .. below f n that is there
 abbrev pub first_some : {A : Type 0} → ℕ → (ℕ → Option A) → Option A

@@ -28,10 +28,7 @@ fn run_all<T: Task>(task: &T, list: &[u16]) -> Result<State, usize>
 fn judge<T: Task>(task: &T, plan: &[u16]) -> Result<State, Refusal>
     ensures { answered result ≡ checked (T.meant task.now) plan.now }
 {
-    let state = match run_all(task, plan) {
-        Ok(state) => state,
-        Err(place) => return Err(Cause::CannotRun.at(place)),
-    };
+    let state = run_all(task, plan).map_err(|place| Cause::CannotRun.at(place))?;
     match state.missed_goal(task) {
         Some(variable) => Err(Cause::GoalMissed.at(usize::from(variable))),
         None => Ok(state),
@@ -51,11 +48,9 @@ pub fn check<T: Task>(task: &T, plan: &[u16]) -> Result<State, Refusal>
 pub fn total<T: Priced, M: Measure>(task: &T, plan: &[u16]) -> M::Total
     ensures { result ≡ total_of M.Measure.scale (priced (T.Task.meant task.now) (T.Priced.tariff task.now)) plan.now }
 {
-    let mut sum = M::nothing();
-    for action in plan {
-        sum = M::join(sum, M::weight(task.price(*action)));
-    }
-    sum
+    plan.iter().fold(M::nothing(), |sum, action| {
+        M::join(sum, M::weight(task.price(*action)))
+    })
 }
 
 // Refused as `check` refuses; otherwise the total of the plan.

@@ -1,0 +1,10 @@
+use Rattle.std.proofs.Common.{rules}
+use borrow.Author.Tests.{tests}
+use Rattle.tasks.specs.Plans.{held, agrees}
+use Rattle.tasks.proofs.Counted.{all_from_range}
+use Rattle.tasks.proofs.state.State.holds.Goals as goal
+
+pub returns : goal.returns
+returns g c =
+    let t = g.T.Task.meant c.args.task.now in
+    all_from_range (λ v. agrees (t.pre c.args.action v) (held c.args.self.now v)) t.vars _ _ _ c.all.ensures.ran (search rules) (λ x b q k. search (rules, tests))
