@@ -5,8 +5,8 @@ use Rattle.tasks.specs.declared.refusal.Refusal.{Refusal}
 use Rattle.tasks.specs.Bounds.{first_failing}
 use Rattle.tasks.specs.Refusals.{refuse}
 use Rattle.tasks.specs.Task.{Task}
-use Rattle.floors.specs.declared.survey.Direction.{Direction}
-use Rattle.floors.specs.declared.survey.Direction.TheVariants.{North, East, South, West}
+use Rattle.floors.specs.declared.cells.Direction.{Direction}
+use Rattle.floors.specs.declared.cells.Direction.TheVariants.{North, East, South, West}
 use Rattle.floors.specs.declared.survey.Survey.{Survey}
 use Rattle.floors.specs.declared.floor.Deed.{Deed}
 use Rattle.floors.specs.declared.floor.Deed.TheVariants.{Move, Sample}

@@ -3,8 +3,8 @@ use Rattle.std.specs.Prelude.{◌≡◌, ℕ, zero, suc, ◌+◌, ◌-◌, ◌*�
 use Rattle.std.proofs.Common.{sym, ap, ◌∙◌, inl, inr, ⊎_elim, add-mul, arith}
 use Rattle.std.proofs.lemmas.Nat.{div-add-mod', div-mul-add, mod-mul-add, mod_below}
 use Rattle.std.proofs.lemmas.Bool.{cond-true, leb-true, ltb-true, le-leb, lt-ltb}
-use Rattle.floors.specs.declared.survey.Direction.{Direction}
-use Rattle.floors.specs.declared.survey.Direction.TheVariants.{North, East, South, West}
+use Rattle.floors.specs.declared.cells.Direction.{Direction}
+use Rattle.floors.specs.declared.cells.Direction.TheVariants.{North, East, South, West}
 use Rattle.tasks.specs.Optional.{chosen}
 use Rattle.floors.specs.Floors.{Pool, cell_count, heading, neighbour_of}
 use Rattle.floors.specs.FloorLaw.{ShareASide}

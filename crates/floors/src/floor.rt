@@ -7,7 +7,8 @@ ghost use Rattle.floors.specs.FloorLaw.{FloorLaw};
 ghost use Rattle.floors.specs.Accepting.{accepted_from};
 ghost use Rattle.floors.specs.Upholding.{lawful_task};
 
-use super::survey::{Direction, Survey};
+use crate::cells::{Cells, Direction};
+use crate::survey::Survey;
 use tasks::{Priced, Refusal, Task};
 
 // A survey that was accepted.
@@ -34,9 +35,15 @@ impl Floor {
         ensures exact { MatchResult result (λ f. (refusal_of (pool_of survey) ≡ None) × (f.survey ≡ survey)) (λ e. refusal_of (pool_of survey) ≡ Some e) }
         ensures law { IfOk result (λ f. FloorLaw (pool_of survey) (priced (surveyed (pool_of f.survey)) (tariff_of (pool_of f.survey)))) }
     {
-        match survey.refusal() {
-            Some(refusal) => Err(refusal),
-            None => Ok(Floor { survey }),
+        survey.check()?;
+        Ok(Floor { survey })
+    }
+
+    fn cells(&self) -> Cells<'_>
+        ensures { result.survey.now ≡ self.now.survey }
+    {
+        Cells {
+            survey: &self.survey,
         }
     }
 
@@ -45,35 +52,29 @@ impl Floor {
         requires { from < cell_count (pool_of self.now.survey) }
         ensures { result ≡ move_between (pool_of self.now.survey) from (neighbour_of (pool_of self.now.survey) from direction) }
     {
-        let to = self.survey.neighbour(from, direction)?;
-        if self.survey.is_open(from) && self.survey.is_open(to) {
-            Some(Deed::Move { from, to })
-        } else {
-            None
-        }
+        let cells = self.cells();
+        let to = cells.neighbour(from, direction)?;
+        (cells.is_open(from) && cells.is_open(to)).then_some(Deed::Move { from, to })
     }
 
     // The sample that is taken at the point with this index, from 0.
     fn sample(&self, index: usize) -> Option<Deed>
         ensures { result ≡ sample_at (pool_of self.now.survey) index }
     {
-        if index < self.survey.points.len() {
-            Some(Deed::Sample {
-                point: index as u8 + 1,
-                cell: self.survey.points[index],
-            })
-        } else {
-            None
-        }
+        let cell = *self.survey.points.get(index)?;
+        Some(Deed::Sample {
+            point: index as u8 + 1,
+            cell,
+        })
     }
 
     // What an action does, if it is live: four moves for each cell, then a sample for each point.
     fn deed(&self, action: u16) -> Option<Deed>
         ensures { result ≡ deed_of (pool_of self.now.survey) action }
     {
-        let moves = 4 * u16::from(self.survey.cells());
+        let moves = 4 * u16::from(self.cells().count());
         if action < moves {
-            self.crossing((action / 4) as u8, Direction::of(action % 4))
+            self.crossing((action / 4) as u8, Direction::ALL[usize::from(action % 4)])
         } else {
             self.sample(usize::from(action - moves))
         }
@@ -100,12 +101,12 @@ impl Task for Floor {
     }
 
     fn actions(&self) -> u16 {
-        4 * u16::from(self.survey.cells()) + u16::from(self.points())
+        4 * u16::from(self.cells().count()) + u16::from(self.points())
     }
 
     fn size(&self, variable: u8) -> u8 {
         if variable == 0 {
-            self.survey.cells()
+            self.cells().count()
         } else if variable <= self.points() {
             2
         } else {
@@ -119,7 +120,7 @@ impl Task for Floor {
 
     fn value_live(&self, variable: u8, value: u8) -> bool {
         if variable == 0 {
-            self.survey.is_open(value)
+            self.cells().is_open(value)
         } else {
             variable <= self.points() && value < 2
         }
@@ -150,11 +151,7 @@ impl Task for Floor {
     }
 
     fn goal(&self, variable: u8) -> Option<u8> {
-        if 1 <= variable && variable <= self.points() {
-            Some(1)
-        } else {
-            None
-        }
+        (1..=self.points()).contains(&variable).then_some(1)
     }
 }
 

@@ -1,6 +1,7 @@
 pub mod Unless
 pub mod Scanning
 pub mod Lookups
+pub mod Reading
 pub mod Words
 pub mod Turns
 pub mod Unpacking

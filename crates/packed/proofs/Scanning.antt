@@ -1,10 +1,12 @@
 -- The pass over the actions of a file that notes where each begins.
-use Rattle.std.proofs.Common.{◌≡◌, ℕ, ◌+◌, ◌<◌, ◌≤◌, List, length, get_or, set, Some, None, Ok, Err, sym, ap, ◌∙◌, add-one, arith, length-set, get_or-set_other, get_or-set_same, below_more}
+use Rattle.std.proofs.Common.{cond, ltb, ◌≡◌, ℕ, ◌+◌, ◌<◌, ◌≤◌, List, length, get_or, set, Some, None, Ok, Err, sym, ap, ◌∙◌, add-one, arith, length-set, get_or-set_other, get_or-set_same, below_more}
+use Rattle.tasks.specs.declared.refusal.Cause.TheVariants.{LeftOver}
 use Rattle.tasks.specs.declared.refusal.Refusal.{Refusal}
 use Rattle.tasks.specs.Bounds.{first_some}
-use Rattle.packed.specs.Decoding.{actions, past_action, action_at, action_refusal, actions_refusal}
+use Rattle.tasks.specs.Refusals.{refuse}
+use Rattle.packed.specs.Decoding.{variables, actions, past_action, action_at, header_refusal, variable_refusal, action_refusal, actions_refusal, refusal}
 use Rattle.packed.specs.Checks.{unless}
-use Rattle.tasks.proofs.Firsts.{none_more, some_at}
+use Rattle.tasks.proofs.Firsts.{none_more, some_at, or_skip, or_stop}
 use Rattle.packed.proofs.Unless.{passed, answer, stopped}
 use Rattle.packed.specs.Accepted.{action_accepted}
 
@@ -35,3 +37,16 @@ module _ (bs offsets : List ℕ) (n end : ℕ) (h : Scanned bs offsets n end) wh
   pub scanned_stop : (d : Refusal) → n < actions bs → Err d ≡ unless (action_refusal bs end) (past_action bs end) → actions_refusal bs ≡ Some d
   scanned_stop d l e =
       some_at (actions bs) n (λ a. action_refusal bs (action_at bs a)) d l h.accepted (sym (ap (action_refusal bs) h.ends) ∙ stopped (action_refusal bs end) (past_action bs end) d e)
+
+-- The first record and the variables are accepted: what is refused is an action, or what is left over.
+module _ (bs : List ℕ) (first : header_refusal bs ≡ None) (stand : first_some (variables bs) (variable_refusal bs) ≡ None) where
+  pub wrong_action : (d : Refusal) → actions_refusal bs ≡ Some d → refusal bs ≡ Some d
+  wrong_action d e = or_skip (header_refusal bs) _ first ∙ or_skip (first_some (variables bs) (variable_refusal bs)) _ stand ∙ or_stop (actions_refusal bs) _ d e
+
+  module _ (offsets : List ℕ) (n end : ℕ) (h : Scanned bs offsets n end) (all : n ≡ actions bs) where
+    pub past_actions : refusal bs ≡ cond (ltb end (length bs)) (refuse LeftOver end) None
+    past_actions =
+        or_skip (header_refusal bs) _ first
+        ∙ or_skip (first_some (variables bs) (variable_refusal bs)) _ stand
+        ∙ or_skip (actions_refusal bs) _ (ap (λ (m : ℕ). first_some m (λ a. action_refusal bs (action_at bs a))) (sym all) ∙ h.accepted)
+        ∙ ap (λ (p : ℕ). cond (ltb p (length bs)) (refuse LeftOver p) None) (sym (h.ends ∙ ap (action_at bs) all))

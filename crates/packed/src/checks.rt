@@ -1,7 +1,8 @@
 // The checks of a packed file, front to back. Each answers the first thing that is wrong, at the first byte of its record.
-ghost use Rattle.std.specs.Prelude.{◌≡◌, ◌+◌, ◌*◌, ◌^◌, ◌<◌, ◌≤◌, length, Some, None, MatchResult};
+ghost use Rattle.std.specs.Prelude.{◌≡◌, ◌+◌, ◌*◌, ◌^◌, ◌<◌, ◌≤◌, length, ltb, if◌then◌else◌, Some, None, MatchResult};
 ghost use Rattle.tasks.specs.Bounds.{first_some};
-ghost use Rattle.packed.specs.Decoding.{header as header_of, variables as variables_of, actions as actions_of, variable_at, action_at, past_action, header_refusal, variable_refusal, fact_refusal, facts_refusal, action_refusal, actions_refusal, refusal, opened};
+ghost use Rattle.tasks.specs.Refusals.{refuse};
+ghost use Rattle.packed.specs.Decoding.{header as header_of, variables as variables_of, actions as actions_of, variable_at, past_action, header_refusal, variable_refusal, fact_refusal, facts_refusal, action_refusal, refusal, opened};
 ghost use Rattle.packed.specs.Packing.{PackingDecides};
 ghost use Rattle.packed.specs.Checks.{unless, Placed};
 
@@ -9,7 +10,7 @@ use crate::records::{Action, Fact, Header, Variable};
 use tasks::{Cause, Refusal};
 
 // The first record, and the length of the whole.
-pub fn check_header(bytes: &[u8]) -> Result<Header, Refusal>
+fn check_header(bytes: &[u8]) -> Result<Header, Refusal>
     ensures { result ≡ unless (header_refusal bytes.now) (record { bits = header_of bytes.now }) }
 {
     if bytes.len() > 65536 {
@@ -37,7 +38,7 @@ pub fn check_header(bytes: &[u8]) -> Result<Header, Refusal>
 fn check_variable(bytes: &[u8], variable: u8) -> Result<(), Refusal>
     ensures { result ≡ unless (variable_refusal bytes.now variable) tt }
 {
-    let place = 4 + 3 * usize::from(variable);
+    let place = Variable::place(variable);
     if bytes.len() < place + 3 {
         return Err(Cause::CutShort.at(place));
     }
@@ -52,7 +53,7 @@ fn check_variable(bytes: &[u8], variable: u8) -> Result<(), Refusal>
 }
 
 // The variables.
-pub fn check_variables(bytes: &[u8], count: u8) -> Result<(), Refusal>
+fn check_variables(bytes: &[u8], count: u8) -> Result<(), Refusal>
     ensures { result ≡ unless (first_some count (variable_refusal bytes.now)) tt }
 {
     for variable in 0..count {
@@ -61,98 +62,112 @@ pub fn check_variables(bytes: &[u8], count: u8) -> Result<(), Refusal>
     Ok(())
 }
 
-// Fact `index` of the facts that begin at `list`, for a file whose variables stand.
-fn check_fact(bytes: &[u8], variables: u8, list: usize, index: u8) -> Result<(), Refusal>
-    requires { (variables ≡ variables_of bytes.now) × ((variable_at bytes.now variables ≤ length bytes.now) × (list < 2 ^ 32)) }
-    ensures { result ≡ unless (fact_refusal bytes.now list index) tt }
+// That no byte is left over from a place on.
+fn check_end(bytes: &[u8], place: usize) -> Result<(), Refusal>
+    ensures { result ≡ unless (if ltb place (length bytes.now) then refuse Cause.LeftOver place else None) tt }
 {
-    let place = list + 2 * usize::from(index);
-    if bytes.len() < place + 2 {
-        return Err(Cause::CutShort.at(place));
-    }
-    let fact = Fact::at(bytes, place);
-    if fact.spare() != 0 {
-        return Err(Cause::SpareBit.at(place));
-    }
-    let ascends = index == 0 || Fact::at(bytes, place - 2).variable() < fact.variable();
-    if fact.variable() >= variables || !ascends {
-        return Err(Cause::VariableOrder.at(place));
-    }
-    let size = Variable::at(bytes, 4 + 3 * usize::from(fact.variable())).size();
-    if fact.value() >= size {
-        return Err(Cause::ValueRange.at(place));
+    if place < bytes.len() {
+        return Err(Cause::LeftOver.at(place));
     }
     Ok(())
 }
 
-// So many facts from a place on.
-fn check_facts(bytes: &[u8], variables: u8, list: usize, count: u8) -> Result<(), Refusal>
-    requires { (variables ≡ variables_of bytes.now) × ((variable_at bytes.now variables ≤ length bytes.now) × (list < 2 ^ 32)) }
-    ensures { result ≡ unless (facts_refusal bytes.now list count) tt }
-{
-    for index in 0..count {
-        check_fact(bytes, variables, list, index)?;
-    }
-    Ok(())
-}
-
-// The action whose record begins at a place. Answers where the next record begins.
-fn check_action(bytes: &[u8], variables: u8, place: usize) -> Result<usize, Refusal>
-    requires counted { (variables ≡ variables_of bytes.now) × ((variable_at bytes.now variables ≤ length bytes.now) × (length bytes.now ≤ 65536)) }
-    requires within { place ≤ length bytes.now }
-    ensures { result ≡ unless (action_refusal bytes.now place) (past_action bytes.now place) }
-{
-    if bytes.len() < place + 4 {
-        return Err(Cause::CutShort.at(place));
-    }
-    let action = Action::at(bytes, place);
-    if action.spare() != 0 {
-        return Err(Cause::SpareBit.at(place));
-    }
-    let effects = place + 4 + 2 * usize::from(action.preconditions());
-    check_facts(bytes, variables, place + 4, action.preconditions())?;
-    check_facts(bytes, variables, effects, action.effects())?;
-    Ok(effects + 2 * usize::from(action.effects()))
-}
-
-// Where the actions' records begin, and where the last of them ends.
+// The bytes of a file whose first record and variables are accepted.
 #[derive(Clone, Copy)]
-pub struct Places {
-    pub offsets: [u32; 512],
-    pub end: usize,
+struct Front<'a> {
+    bytes: &'a [u8],
+    header: Header,
+    ghost read: { header.bits ≡ header_of bytes.now },
+    ghost first: { header_refusal bytes.now ≡ None },
+    ghost variables: { first_some (variables_of bytes.now) (variable_refusal bytes.now) ≡ None },
+    ghost short: { length bytes.now ≤ 65536 },
+    ghost few: { actions_of bytes.now ≤ 512 },
+    ghost inside: { variable_at bytes.now (variables_of bytes.now) ≤ length bytes.now },
 }
 
-// The actions, one behind the other.
-fn check_actions(bytes: &[u8], header: Header) -> Result<Places, Refusal>
-    requires { (header.bits ≡ header_of bytes.now) × ((actions_of bytes.now ≤ 512) × ((variable_at bytes.now (variables_of bytes.now) ≤ length bytes.now) × (length bytes.now ≤ 65536))) }
-    ensures { MatchResult result (λ p. (actions_refusal bytes.now ≡ None) × Placed bytes.now p.offsets × (p.end ≡ action_at bytes.now (actions_of bytes.now))) (λ e. actions_refusal bytes.now ≡ Some e) }
-{
-    let mut offsets = [0; 512];
-    let mut end = 4 + 3 * usize::from(header.variables());
-    for action in 0..header.actions() {
-        offsets[usize::from(action)] = end as u32;
-        end = check_action(bytes, header.variables(), end)?;
+impl Front<'_> {
+    // The first record and the variables.
+    fn check(bytes: &[u8]) -> Result<Front<'_>, Refusal>
+        ensures { MatchResult result (λ f. f.bytes.now ≡ bytes.now) (λ e. refusal bytes.now ≡ Some e) }
+    {
+        let header = check_header(bytes)?;
+        check_variables(bytes, header.variables())?;
+        Ok(Front { bytes, header })
     }
-    Ok(Places { offsets, end })
-}
 
-// Every record, and that nothing is left over. Answers where the actions' records begin.
-fn check_records(bytes: &[u8]) -> Result<[u32; 512], Refusal>
-    ensures { MatchResult result (λ offsets. (refusal bytes.now ≡ None) × Placed bytes.now offsets) (λ e. refusal bytes.now ≡ Some e) }
-{
-    let header = check_header(bytes)?;
-    check_variables(bytes, header.variables())?;
-    let places = check_actions(bytes, header)?;
-    if places.end < bytes.len() {
-        return Err(Cause::LeftOver.at(places.end));
+    // Fact `index` of the facts that begin at `list`.
+    fn check_fact(&self, list: usize, index: u8) -> Result<(), Refusal>
+        requires { list < 2 ^ 32 }
+        ensures { result ≡ unless (fact_refusal self.now.bytes.now list index) tt }
+    {
+        let place = list + 2 * usize::from(index);
+        if self.bytes.len() < place + 2 {
+            return Err(Cause::CutShort.at(place));
+        }
+        let fact = Fact::at(self.bytes, place);
+        if fact.spare() != 0 {
+            return Err(Cause::SpareBit.at(place));
+        }
+        let ascends = index == 0 || Fact::at(self.bytes, place - 2).variable() < fact.variable();
+        if fact.variable() >= self.header.variables() || !ascends {
+            return Err(Cause::VariableOrder.at(place));
+        }
+        let variable = Variable::at(self.bytes, Variable::place(fact.variable()));
+        if fact.value() >= variable.size() {
+            return Err(Cause::ValueRange.at(place));
+        }
+        Ok(())
     }
-    Ok(places.offsets)
+
+    // So many facts from a place on.
+    fn check_facts(&self, list: usize, count: u8) -> Result<(), Refusal>
+        requires { list < 2 ^ 32 }
+        ensures { result ≡ unless (facts_refusal self.now.bytes.now list count) tt }
+    {
+        for index in 0..count {
+            self.check_fact(list, index)?;
+        }
+        Ok(())
+    }
+
+    // The action whose record begins at a place. Answers where the next record begins.
+    fn check_action(&self, place: usize) -> Result<usize, Refusal>
+        requires { place ≤ length self.now.bytes.now }
+        ensures { result ≡ unless (action_refusal self.now.bytes.now place) (past_action self.now.bytes.now place) }
+    {
+        if self.bytes.len() < place + 4 {
+            return Err(Cause::CutShort.at(place));
+        }
+        let action = Action::at(self.bytes, place);
+        if action.spare() != 0 {
+            return Err(Cause::SpareBit.at(place));
+        }
+        let effects = place + 4 + 2 * usize::from(action.preconditions());
+        self.check_facts(place + 4, action.preconditions())?;
+        self.check_facts(effects, action.effects())?;
+        Ok(effects + 2 * usize::from(action.effects()))
+    }
+
+    // The actions, one behind the other, and that nothing is left over. Answers where their records begin: a plain array, which
+    // the header counts, as the project asks.
+    fn check_actions(&self) -> Result<[usize; 512], Refusal>
+        ensures { MatchResult result (λ offsets. (refusal self.now.bytes.now ≡ None) × Placed self.now.bytes.now offsets) (λ e. refusal self.now.bytes.now ≡ Some e) }
+    {
+        let mut offsets = [0; 512];
+        let mut place = Variable::place(self.header.variables());
+        for action in 0..self.header.actions() {
+            offsets[usize::from(action)] = place;
+            place = self.check_action(place)?;
+        }
+        check_end(self.bytes, place)?;
+        Ok(offsets)
+    }
 }
 
 // The whole file. Answers where the actions' records begin.
-pub fn check(bytes: &[u8]) -> Result<[u32; 512], Refusal>
+pub fn check(bytes: &[u8]) -> Result<[usize; 512], Refusal>
     ensures result { MatchResult result (λ offsets. (refusal bytes.now ≡ None) × Placed bytes.now offsets) (λ e. refusal bytes.now ≡ Some e) }
     ensures law { PackingDecides bytes.now (opened bytes.now) }
 {
-    check_records(bytes)
+    Front::check(bytes)?.check_actions()
 }

@@ -1,5 +1,5 @@
 // The records of a packed file, each as the number that its bytes make, and the fields of that number.
-ghost use Rattle.std.specs.Prelude.{◌≡◌, ◌+◌, ◌≤◌, length, Option};
+ghost use Rattle.std.specs.Prelude.{◌≡◌, ◌+◌, ◌*◌, ◌≤◌, length, Option};
 ghost use Rattle.packed.specs.Records.{word, field as field_of, layout as layout_of, variable_count, action_count, header_spare, size_of, initial_of, goal_value, goal_of, values_fit, variable_spare, price_of, precondition_count, effect_count, action_spare, fact_variable, fact_value, fact_spare};
 
 // So many bits of a number, above its lowest ones.
@@ -8,6 +8,17 @@ fn field(n: u32, low: u32, width: u32) -> u32
     ensures { result ≡ field_of n low width }
 {
     (n >> low) & ((1 << width) - 1)
+}
+
+// The number that `WIDTH` bytes make, from a place on, most significant first.
+fn number<const WIDTH: usize>(bytes: &[u8], place: usize) -> u32
+    requires few { WIDTH ≤ 4 }
+    requires inside { place + WIDTH ≤ length bytes.now }
+    ensures { result ≡ word bytes.now place WIDTH }
+{
+    bytes[place..place + WIDTH]
+        .iter()
+        .fold(0, |so_far, byte| (so_far << 8) | u32::from(*byte))
 }
 
 // The first record: the layout, and how many variables and actions follow.
@@ -23,7 +34,7 @@ impl Header {
         ensures { result.bits ≡ word bytes.now 0 4 }
     {
         Header {
-            bits: u32::from_be_bytes([bytes[0], bytes[1], bytes[2], bytes[3]]),
+            bits: number::<4>(bytes, 0),
         }
     }
 
@@ -59,13 +70,20 @@ pub struct Variable {
 }
 
 impl Variable {
+    // Where the record of the variable of this number begins.
+    pub fn place(number: u8) -> usize
+        ensures { result ≡ 4 + 3 * number }
+    {
+        4 + 3 * usize::from(number)
+    }
+
     // The variable whose three bytes begin at a place.
     pub fn at(bytes: &[u8], place: usize) -> Variable
         requires { place + 3 ≤ length bytes.now }
         ensures { result.bits ≡ word bytes.now place 3 }
     {
         Variable {
-            bits: u32::from_be_bytes([0, bytes[place], bytes[place + 1], bytes[place + 2]]),
+            bits: number::<3>(bytes, place),
         }
     }
 
@@ -91,21 +109,16 @@ impl Variable {
     pub fn goal(self) -> Option<u8>
         ensures { result ≡ goal_of self.bits }
     {
-        if field(self.bits, 11, 1) == 1 {
-            Some(self.goal_value())
-        } else {
-            None
-        }
+        (field(self.bits, 11, 1) == 1).then_some(self.goal_value())
     }
 
     // Whether the initial value and the goal are values of the variable, and the goal's field is 0 where there is no goal.
     pub fn values_fit(self) -> bool
         ensures { result ≡ values_fit self.bits }
     {
-        let goal_fits = match self.goal() {
-            Some(value) => value < self.size(),
-            None => self.goal_value() == 0,
-        };
+        let goal_fits = self
+            .goal()
+            .map_or(self.goal_value() == 0, |value| value < self.size());
         self.initial() < self.size() && goal_fits
     }
 
@@ -129,12 +142,7 @@ impl Action {
         ensures { result.bits ≡ word bytes.now place 4 }
     {
         Action {
-            bits: u32::from_be_bytes([
-                bytes[place],
-                bytes[place + 1],
-                bytes[place + 2],
-                bytes[place + 3],
-            ]),
+            bits: number::<4>(bytes, place),
         }
     }
 
@@ -176,7 +184,7 @@ impl Fact {
         ensures { result.bits ≡ word bytes.now place 2 }
     {
         Fact {
-            bits: u32::from_be_bytes([0, 0, bytes[place], bytes[place + 1]]),
+            bits: number::<2>(bytes, place),
         }
     }
 

@@ -1,6 +1,6 @@
 // What a packed file answers, as a task and as a priced one.
 ghost use Rattle.std.specs.Prelude.{◌≡◌, ◌+◌, ◌*◌, ◌≤◌, ltb, IfSome, if◌then◌else◌, Some, None, vec_len};
-ghost use Rattle.packed.specs.Decoding.{header as header_of, variables as variables_of, actions as actions_of, variable_record, action_at, past_action, looked_up, decoded_task, tariff as tariff_of};
+ghost use Rattle.packed.specs.Decoding.{header as header_of, variables as variables_of, actions as actions_of, variable_record, action_record, action_at, past_action, looked_up, decoded_task, tariff as tariff_of};
 ghost use Rattle.packed.specs.Files.{contents};
 ghost use Rattle.packed.specs.Accepted.{accepted_of};
 ghost use Rattle.packed.specs.LawfulFile.{lawful_decoded};
@@ -20,11 +20,8 @@ impl File {
     fn variable(&self, variable: u8) -> Option<Variable>
         ensures { result ≡ (if ltb variable (variables_of (contents self.now)) then Some (record { bits = variable_record (contents self.now) variable }) else None) }
     {
-        if variable < self.header().variables() {
-            Some(Variable::at(&self.bytes, 4 + 3 * usize::from(variable)))
-        } else {
-            None
-        }
+        let place = Variable::place(variable);
+        (variable < self.header().variables()).then(|| Variable::at(&self.bytes, place))
     }
 
     // Where the record of an action begins, if there is one of that number.
@@ -32,11 +29,16 @@ impl File {
         ensures value { result ≡ (if ltb action (actions_of (contents self.now)) then Some (action_at (contents self.now) action) else None) }
         ensures inside { IfSome result (λ p. past_action (contents self.now) p ≤ vec_len self.now.bytes) }
     {
-        if action < self.header().actions() {
-            Some(self.offsets[usize::from(action)] as usize)
-        } else {
-            None
-        }
+        let offset = self.offsets.get(usize::from(action)).copied()?;
+        (action < self.header().actions()).then_some(offset)
+    }
+
+    // The record of an action, if there is one of that number.
+    fn record(&self, action: u16) -> Option<Action>
+        ensures { result ≡ (if ltb action (actions_of (contents self.now)) then Some (record { bits = action_record (contents self.now) action }) else None) }
+    {
+        let place = self.place(action)?;
+        Some(Action::at(&self.bytes, place))
     }
 
     // The value that so many facts, from a place on, give to a variable.
@@ -44,13 +46,10 @@ impl File {
         requires { place + 2 * count ≤ vec_len self.now.bytes }
         ensures { result ≡ looked_up (contents self.now) place count variable }
     {
-        for index in 0..count {
-            let fact = Fact::at(&self.bytes, place + 2 * usize::from(index));
-            if fact.variable() == variable {
-                return Some(fact.value());
-            }
-        }
-        None
+        (0..count)
+            .map(|index| Fact::at(&self.bytes, place + 2 * usize::from(index)))
+            .find(|fact| fact.variable() == variable)
+            .map(|fact| fact.value())
     }
 }
 
@@ -68,10 +67,7 @@ impl Task for File {
     }
 
     fn size(&self, variable: u8) -> u8 {
-        match self.variable(variable) {
-            Some(record) => record.size(),
-            None => 0,
-        }
+        self.variable(variable).map_or(0, |record| record.size())
     }
 
     fn variable_live(&self, variable: u8) -> bool {
@@ -100,10 +96,7 @@ impl Task for File {
     }
 
     fn initial(&self, variable: u8) -> u8 {
-        match self.variable(variable) {
-            Some(record) => record.initial(),
-            None => 0,
-        }
+        self.variable(variable).map_or(0, |record| record.initial())
     }
 
     fn goal(&self, variable: u8) -> Option<u8> {
@@ -115,9 +108,6 @@ impl Priced for File {
     ghost tariff = { λ f. tariff_of (contents f) };
 
     fn price(&self, action: u16) -> u16 {
-        match self.place(action) {
-            Some(place) => Action::at(&self.bytes, place).price(),
-            None => 0,
-        }
+        self.record(action).map_or(0, |record| record.price())
     }
 }

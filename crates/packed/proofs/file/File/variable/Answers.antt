@@ -1,13 +1,14 @@
-use Rattle.std.proofs.Common.{◌<◌, ap, ◌∙◌, subst, arith}
+use Rattle.std.proofs.Common.{◌≡◌, ◌+◌, ◌*◌, ◌<◌, ◌≤◌, length, ap, ◌∙◌, rules, arith}
 use Rattle.packed.specs.Records.{variable_count}
 use Rattle.packed.specs.Decoding.{variables}
 use Rattle.packed.specs.Files.{contents}
 use Rattle.packed.specs.Accepted.{accepted_of}
 use Rattle.packed.proofs.file.File.variable.Goals as goal
 
-pub at-requires : goal.at-requires
-at-requires c =
+pub then-requires : goal.then-requires
+then-requires c =
     let f = c.args.self.now in
-    let below : c.args.variable < variables (contents f) = subst (λ n. c.args.variable < n) (c.variables.ensures ∙ ap variable_count c.header.ensures) c.if-variable-variables.true in
-    let inside = ((accepted_of (contents f) f.accepted).variable c.args.variable below).inside in
-    omega (arith, inside, c.from.ensures)
+    let bs = contents f in
+    let count : c.variables.result ≡ variables bs = c.variables.ensures ∙ ap variable_count c.header.ensures in
+    let inside : c.args.variable < c.variables.result → 4 + 3 * c.args.variable + 3 ≤ length bs = λ l. ((accepted_of bs f.accepted).variable c.args.variable (omega arith)).inside in
+    search rules

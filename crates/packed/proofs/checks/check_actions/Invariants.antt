@@ -1,5 +1,0 @@
-use Rattle.packed.proofs.Scanning.{Scanned}
-use Rattle.packed.proofs.checks.check_actions.Given as goal
-
-abbrev pub invariant-loop-action : goal.invariant-loop-action
-invariant-loop-action l = Scanned l.bytes l.offsets l.action l.end
