@@ -1,6 +1,6 @@
 -- A detour is a path of least total, and there is one where there is a path.
-use Rattle.std.proofs.Common.{◌≡◌, ℕ, Bool, true, false, cond, ◌&&◌, eqb, List, [], Some, None, Option, sym, refl, ◌∙◌, subst}
-use Rattle.std.proofs.lemmas.Bool.{both_ways, and_parts, and_from, eq-eqb, cond-true}
+use Rattle.std.proofs.Common.{◌≡◌, ℕ, Bool, true, false, ◌&&◌, List, [], Some, None, Option, refl}
+use Rattle.std.proofs.lemmas.Bool.{both_ways, and_parts, and_from}
 use Rattle.tasks.specs.Task.{Priced, Lawful}
 use Rattle.tasks.specs.Measures.{CostAlgebra, CostLaws}
 use Rattle.tasks.specs.Totals.{total}
@@ -39,10 +39,6 @@ module _ {S : Type 0} (m : CostAlgebra S) (laws : CostLaws m) (p : Priced) (lawf
       go false t = λ live s at list leads.
           let live-r = path_live p.task lawful v list c r (leads_path p.task lawful v list s c r leads at) live in
           both_ways (p.task.val_live v c && p.task.val_live v r) t (and_from (p.task.val_live v c) (p.task.val_live v r) live live-r)
-
-  -- as the code answers, for a table of n totals
-  pub answer_decides : (n : ℕ) (answer : Option (Found S)) → answer ≡ cond (eqb n 64) (detour m p v c r) None → n ≡ 64 → DetourDecides m p v c r answer
-  answer_decides n answer is long = subst (DetourDecides m p v c r) (sym (is ∙ cond-true (eqb n 64) (detour m p v c r) None (eq-eqb n 64 long))) detour_decides
 
   -- where a path leads from a live value there is a detour, and a least one
   pub reached : p.task.val_live v c ≡ true → (list : List ℕ) → FreePath p.task v c list r → (d : Found S) × (detour m p v c r ≡ Some d) × LeastDetour m p v c r d

@@ -5,6 +5,7 @@ use Rattle.tasks.specs.Plans.{agrees}
 use Rattle.tasks.specs.Measures.{CostAlgebra}
 use Rattle.detours.specs.declared.edges.Edge.{Edge}
 use Rattle.detours.specs.declared.marks.Mark.{Mark}
+use Rattle.detours.specs.declared.marks.Mark.TheVariants.{Open}
 use Rattle.detours.specs.Detours.{Label, unlabelled, improves, relax}
 use Rattle.detours.specs.Marks.{label_of, labels}
 use Rattle.detours.specs.EdgeSearch.{relax_edges}
@@ -24,9 +25,9 @@ module _ {S : Type 0} (m : CostAlgebra S) (ks : List Mark) (xs : List S) (u a : 
   unfolding choice taken
   relax_is = ap choice (labels_at ks xs y (unlabelled m) d old marked within ∙ ap (label_of (get_or ks y d)) (sym old-is))
 
-  pub relax_takes : takes ≡ true → labels (set ks y (record { reached = true; settled = false; via = a; from = u })) (set xs y x) ≡ relax m (labels ks xs) u a x (Some y)
+  pub relax_takes : takes ≡ true → labels (set ks y (Open (record { via = a; from = u }))) (set xs y x) ≡ relax m (labels ks xs) u a x (Some y)
   unfolding choice taken
-  relax_takes h = labels_set ks xs y (record { reached = true; settled = false; via = a; from = u }) x ∙ sym (relax_is ∙ ap (λ (b : Bool). elim b [ true ↦ taken | false ↦ labels ks xs ]) h)
+  relax_takes h = labels_set ks xs y (Open (record { via = a; from = u })) x ∙ sym (relax_is ∙ ap (λ (b : Bool). elim b [ true ↦ taken | false ↦ labels ks xs ]) h)
 
   pub relax_leaves : takes ≡ false → labels ks xs ≡ relax m (labels ks xs) u a x (Some y)
   unfolding choice taken

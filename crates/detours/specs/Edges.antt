@@ -1,5 +1,5 @@
 -- The free actions of a variable as the edges of a graph over its values.
-use Rattle.std.specs.Prelude.{ℕ, zero, suc, ◌<◌, cond, List, [], ◌∷◌, length, take, Some, None, Option, slice_index_or}
+use Rattle.std.specs.Prelude.{ℕ, zero, suc, ◌<◌, cond, List, [], ◌∷◌, length, Some, None, Option, slice_index_or}
 use Rattle.tasks.specs.Task.{Priced}
 use Rattle.detours.specs.declared.edges.Edge.{Edge}
 use Rattle.detours.specs.declared.edges.Edges.{Edges}
@@ -24,7 +24,7 @@ free_edges p v (suc n) a = put_first (edge_of p v a) (free_edges p v n (suc a))
 
 -- what was gathered
 abbrev pub edges_in : Edges → List Edge
-edges_in e = take e.count e.list
+edges_in e = e.list.items
 
 -- every edge leads to a value below 64, the most that a variable has
 abbrev pub TargetsFit : List Edge → Type 0

@@ -1,13 +1,14 @@
 // The free actions of a variable as the edges of a graph over its values.
-ghost use Rattle.std.specs.Prelude.{◌≡◌, ◌≤◌};
+ghost use Rattle.std.specs.Prelude.{◌≡◌};
 ghost use Rattle.tasks.specs.Plans.{agrees};
 
 mod gathering;
 
-pub use gathering::gather;
+use arrayvec::ArrayVec;
+pub use gathering::{gather, is_free};
 
 // A free action: the value it leads from, or every value where there is none, the one it leads to, and its price.
-#[derive(Clone, Copy)]
+#[derive(Clone, Copy, Default)]
 pub struct Edge {
     pub action: u16,
     pub from: Option<u8>,
@@ -18,18 +19,13 @@ pub struct Edge {
 // At most 512 of them.
 #[derive(Drop)]
 pub struct Edges {
-    list: [Edge; 512],
-    count: usize,
-    ghost fits: { count ≤ 512 },
+    list: ArrayVec<Edge, 512>,
 }
 
 impl Edge {
     pub fn leads_from(&self, value: u8) -> bool
         ensures { result ≡ agrees self.now.from value }
     {
-        match self.from {
-            Some(from) => value == from,
-            None => true,
-        }
+        self.from.is_none_or(|from| value == from)
     }
 }

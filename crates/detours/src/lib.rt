@@ -16,7 +16,7 @@ mod search;
 
 use edges::gather;
 pub use path::Path;
-use path::read_off;
+use search::Search;
 
 // Searches in the totals that it is lent, and leaves them as they then are.
 fn find<T: Priced, M: Measure>(
@@ -27,43 +27,22 @@ fn find<T: Priced, M: Measure>(
     table: &mut [M::Total],
 ) -> Option<Path<M::Total>>
     requires { length table.old ≡ 64 }
-    ensures { (answered result ≡ due M.Measure.scale (priced (T.Task.meant task.now) (T.Priced.tariff task.now)) variable from to) × (length table.new ≡ 64) }
+    ensures { answered result ≡ due M.Measure.scale (priced (T.Task.meant task.now) (T.Priced.tariff task.now)) variable from to }
 {
     if !task.value_live(variable, from) || !task.value_live(variable, to) {
         return None;
     }
     let edges = gather(task, variable);
-    let mut marks = search::begin::<M>(table, from);
-    search::settle_all::<M>(&mut marks, table, edges.as_slice());
-    read_off::<M>(&marks, table, from, to)
+    let mut search = Search::<M>::begin(table, from);
+    search.settle_all(edges.as_slice());
+    search.read_off(from, to)
 }
 
 // All totals are left for nothing.
 pub fn clear<M: Measure>(table: &mut [M::Total])
     ensures { table.new ≡ replicate (length table.old) M.Measure.scale.nothing }
 {
-    for total in table.iter_mut() {
-        *total = M::nothing();
-    }
-}
-
-// What `detour` answers and leaves.
-fn find_and_clear<T: Priced, M: Measure>(
-    task: &T,
-    variable: u8,
-    from: u8,
-    to: u8,
-    table: &mut [M::Total],
-) -> Option<Path<M::Total>>
-    ensures result { answered result ≡ (if nat_eq (length table.old) 64 then due M.Measure.scale (priced (T.Task.meant task.now) (T.Priced.tariff task.now)) variable from to else None) }
-    ensures table { table.new ≡ (if nat_eq (length table.old) 64 then replicate 64 M.Measure.scale.nothing else table.old) }
-{
-    if table.len() != 64 {
-        return None;
-    }
-    let found = find::<T, M>(task, variable, from, to, table);
-    clear::<M>(table);
-    found
+    table.fill_with(|| M::nothing());
 }
 
 // The detour of a variable from one value to another, searched in the caller's table of 64 totals. Nothing where one of
@@ -79,5 +58,10 @@ pub fn detour<T: Priced, M: Measure>(
     ensures table { table.new ≡ (if nat_eq (length table.old) 64 then replicate 64 M.Measure.scale.nothing else table.old) }
     ensures law { length table.old ≡ 64 → DetourDecides M.Measure.scale (priced (T.Task.meant task.now) (T.Priced.tariff task.now)) variable from to (answered result) }
 {
-    find_and_clear::<T, M>(task, variable, from, to, table)
+    if table.len() != 64 {
+        return None;
+    }
+    let found = find::<T, M>(task, variable, from, to, table);
+    clear::<M>(table);
+    found
 }

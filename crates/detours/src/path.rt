@@ -1,18 +1,50 @@
 // A detour that was found.
-ghost use Rattle.std.specs.Prelude.{◌≡◌, ◌≤◌, length};
+ghost use Rattle.std.specs.Prelude.{◌≡◌, [], ◌∷◌};
 
-mod making;
-mod reading;
-mod tracing;
+use arrayvec::ArrayVec;
 
-pub(crate) use tracing::read_off;
-
-// A list of at most 64 actions and what it costs. It is written from its end: its actions stand at the end of the array.
+// A list of at most 64 actions, in the order in which they run, and what it costs.
 #[derive(Drop)]
 pub struct Path<S: Copy> {
-    actions: [u16; 64],
-    first: usize,
+    actions: ArrayVec<u16, 64>,
     total: S,
-    ghost fits: { first ≤ 64 },
-    ghost long: { length actions ≡ 64 },
+}
+
+impl<S: Copy> Path<S> {
+    ghost use Rattle.detours.specs.Paths.{found_in};
+
+    pub(crate) fn new(actions: ArrayVec<u16, 64>, total: S) -> Path<S>
+        ensures { found_in result ≡ record { actions = actions.items; total = total } }
+    {
+        Path { actions, total }
+    }
+
+    // No action, at the total given.
+    pub fn empty(total: S) -> Path<S>
+        ensures { found_in result ≡ record { actions = []; total = total } }
+    {
+        Path::new(ArrayVec::new(), total)
+    }
+
+    // One action, at the total given.
+    pub fn single(action: u16, total: S) -> Path<S>
+        ensures { found_in result ≡ record { actions = action ∷ []; total = total } }
+    {
+        let mut actions = ArrayVec::new();
+        actions.push(action);
+        Path::new(actions, total)
+    }
+
+    // In the order in which they run.
+    pub fn actions(&self) -> &[u16]
+        ensures { result.now ≡ (found_in self.now).actions }
+    {
+        self.actions.as_slice()
+    }
+
+    pub fn total(&self) -> S
+        ensures { result ≡ (found_in self.now).total }
+    {
+        self.total
+    }
 }

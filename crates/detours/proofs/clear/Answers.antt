@@ -1,9 +1,9 @@
-use Rattle.std.proofs.Common.{arith}
-use Rattle.detours.proofs.ClearLoop.{filled_more, filled_all}
+use Rattle.std.proofs.Common.{ap, ◌∙◌, replicate, rules}
+use borrow.Author.Tests.{tests}
+use Rattle.detours.proofs.Filling.{filled_with}
 use Rattle.detours.proofs.clear.Goals as goal
 
-pub loop-total-preserved : goal.loop-total-preserved
-loop-total-preserved g c = filled_more g.M.Measure.scale.nothing c.loop-total.total-index c.args.table.now c.loop-total.table c.nothing.result (omega arith) c.loop-total.invariant c.nothing.ensures
-
 pub returns : goal.returns
-returns g c = filled_all g.M.Measure.scale.nothing c.loop-total.total-index c.args.table.now c.loop-total.table (omega arith) (omega arith) c.loop-total.invariant
+returns g c =
+    let v = g.M.Measure.scale.nothing in
+    filled_with _ v (λ p x q k. search (rules, tests)) _ c.fill_with.new.self _ c.fill_with.ensures.ran.1 ∙ ap (λ n. replicate n v) c.fill_with.ensures.len

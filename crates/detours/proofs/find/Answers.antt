@@ -2,26 +2,14 @@ use Rattle.std.proofs.Common.{List, sym, ◌∙◌, subst, rules}
 use Rattle.tasks.specs.Task.{priced}
 use Rattle.detours.specs.declared.edges.Edge.{Edge}
 use Rattle.detours.specs.Edges.{TargetsFit}
-use Rattle.detours.proofs.FreePaths.{value_few}
 use Rattle.detours.proofs.GatheredSearch.{targets_fit, found}
 use Rattle.detours.proofs.find.Goals as goal
 
-pub begin-marks-requires : goal.begin-marks-requires
-begin-marks-requires g c = (c.requires, value_few _ (g.met.T.Task.lawful c.args.task.now) c.args.variable c.args.from (search rules))
-
 pub settle_all-requires : goal.settle_all-requires
-settle_all-requires g c = (
-  c.begin-marks.ensures.1,
-  subst (λ (es : List Edge). TargetsFit es) (sym (c.as_slice.ensures ∙ c.gather-edges.ensures)) (targets_fit _ (g.met.T.Task.lawful c.args.task.now) _ _ 0),
-)
-
-pub read_off-requires : goal.read_off-requires
-read_off-requires g c = (c.settle_all.ensures.1, value_few _ (g.met.T.Task.lawful c.args.task.now) c.args.variable c.args.to (search rules))
+settle_all-requires g c = subst (λ (es : List Edge). TargetsFit es) (sym (c.as_slice.ensures ∙ c.gather-edges.ensures)) (targets_fit _ (g.met.T.Task.lawful c.args.task.now) _ _ 0)
 
 pub returns : goal.returns
 returns g c =
     let t = g.T.Task.meant c.args.task.now in
-    let p = priced t (g.T.Priced.tariff c.args.task.now) in (
-      found g.M.Measure.scale p c.args.variable c.args.from c.args.to _ _ _ _ (search rules) (search rules) (c.as_slice.ensures ∙ c.gather-edges.ensures) c.begin-marks.ensures.0 c.settle_all.ensures.0 c.read_off.ensures,
-      c.settle_all.ensures.1,
-    )
+    let p = priced t (g.T.Priced.tariff c.args.task.now) in
+    found g.M.Measure.scale p c.args.variable c.args.from c.args.to _ _ _ _ (search rules) (search rules) (c.as_slice.ensures ∙ c.gather-edges.ensures) c.begin-search.ensures c.settle_all.ensures c.read_off.ensures

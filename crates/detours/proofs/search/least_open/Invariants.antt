@@ -1,8 +1,0 @@
-use Rattle.std.proofs.Common.{◌≡◌, drop, None}
-use Rattle.detours.specs.Detours.{least_open}
-use Rattle.detours.specs.Marks.{labels}
-use Rattle.detours.proofs.search.least_open.Given as goal
-
--- what is left of the labels gives the answer
-abbrev pub invariant-loop-value : goal.invariant-loop-value
-invariant-loop-value g l = let m = g.M.Measure.scale in let es = labels l.marks.of l.table in least_open m (drop l.value es) l.value l.at l.best ≡ least_open m es 0 None None
