@@ -1,4 +1,3 @@
-pub mod LiveValues
 pub mod StandIns
 pub mod MarkingLoop
 pub mod GatheredMarks

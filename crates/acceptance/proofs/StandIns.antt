@@ -1,6 +1,8 @@
 -- The list of an action step, action by action.
-use Rattle.std.proofs.Common.{◌≡◌, ℕ, suc, ◌+◌, ◌<◌, ◌≤◌, Bool, true, false, not, ◌||◌, List, length, get_or, drop, Some, None, Option, sym, ap, ◌∙◌, add-one}
+use Rattle.std.proofs.Common.{nat_lt, arith, [], ◌∷◌, refl, cond, ◌≡◌, ℕ, suc, ◌+◌, ◌<◌, ◌≤◌, Bool, true, false, not, ◌||◌, List, length, get_or, drop, Some, None, Option, sym, ap, ◌∙◌}
 use Rattle.std.proofs.lemmas.List.{at_drop_more, at_drop_all}
+use Rattle.std.proofs.lemmas.Bool.Decides.{nat_tests}
+use Rattle.std.specs.List.{list_any, position, position_or_len}
 use Rattle.tasks.specs.Bounds.{all_below}
 use Rattle.tasks.specs.Task.{Task}
 use Rattle.detours.specs.Free.{absent}
@@ -8,27 +10,6 @@ use Rattle.reductions.specs.Steps.{Known, needs_known, overridden, known_after, 
 use Rattle.reductions.specs.Acceptance.{listable, first_unlisted}
 
 module _ (t : Task) (list : List ℕ) where
-  -- the first action that may not stand in the list
-  module _ (a : ℕ) where
-    next_listed : ℕ → Bool → Option ℕ
-    next_listed i b = elim b [ true ↦ first_unlisted t a (suc i) (drop (i + 1) list) | false ↦ Some i ]
-
-    module _ (i : ℕ) (l : i < length list) where
-      listed_first : first_unlisted t a i (drop i list) ≡ next_listed i (listable t a (get_or list i 0))
-      unfolding next_listed
-      listed_first = at_drop_more (first_unlisted t a i) list i 0 l
-
-      pub listed_more : listable t a (get_or list i 0) ≡ true → first_unlisted t a (i + 1) (drop (i + 1) list) ≡ first_unlisted t a i (drop i list)
-      unfolding next_listed
-      listed_more h = ap (λ (k : ℕ). first_unlisted t a k (drop (i + 1) list)) (add-one i) ∙ sym (listed_first ∙ ap (next_listed i) h)
-
-      pub unlisted_here : listable t a (get_or list i 0) ≡ false → Some i ≡ first_unlisted t a i (drop i list)
-      unfolding next_listed
-      unlisted_here h = sym (listed_first ∙ ap (next_listed i) h)
-
-    pub listed_end : (i : ℕ) → length list ≤ i → None ≡ first_unlisted t a i (drop i list)
-    listed_end i l = sym (at_drop_all (first_unlisted t a i) list i l)
-
   -- what is known after the list
   module _ (i : ℕ) (k : Known) where
     allowed : Bool
@@ -52,16 +33,34 @@ module _ (t : Task) (list : List ℕ) where
     pub known_end : length list ≤ i → Some k ≡ known_after t k (drop i list)
     known_end l = sym (at_drop_all (known_after t k) list i l)
 
-  -- whether a variable is set
-  module _ (w i : ℕ) where
-    set_first : i < length list → is_set_by t (drop i list) w ≡ (not (absent (t.eff (get_or list i 0) w)) || is_set_by t (drop (i + 1) list) w)
-    set_first l = at_drop_more (λ (cs : List ℕ). is_set_by t cs w) list i 0 l
+-- whether a variable is set, by the library's word
+pub set_by_any : (t : Task) (w : ℕ) (list : List ℕ) → list_any (λ a. not (absent (t.eff a w))) list ≡ is_set_by t list w
+set_by_any t w [] = refl
+set_by_any t w (a ∷ rest) = ap (λ (b : Bool). not (absent (t.eff a w)) || b) (set_by_any t w rest)
 
-    pub set_more : i < length list → absent (t.eff (get_or list i 0) w) ≡ true → is_set_by t (drop (i + 1) list) w ≡ is_set_by t (drop i list) w
-    set_more l h = sym (set_first l ∙ ap (λ (b : Bool). not b || is_set_by t (drop (i + 1) list) w) h)
+-- the first action that may not stand in a list, numbered from i, by the library's word
+module _ (t : Task) (a : ℕ) where
+  found : ℕ → List ℕ → Option ℕ
+  found i list = cond (nat_lt (position_or_len (λ other. not (listable t a other)) list) (length list)) (Some (i + position_or_len (λ other. not (listable t a other)) list)) None
 
-    pub set_here : i < length list → absent (t.eff (get_or list i 0) w) ≡ false → true ≡ is_set_by t (drop i list) w
-    set_here l h = sym (set_first l ∙ ap (λ (b : Bool). not b || is_set_by t (drop (i + 1) list) w) h)
+  later : (i m n : ℕ) → cond (nat_lt (1 + m) (suc n)) (Some (i + (1 + m))) None ≡ cond (nat_lt m n) (Some (suc i + m)) None
+  later i m n = grind (arith, nat_tests)
 
-    pub set_end : length list ≤ i → false ≡ is_set_by t (drop i list) w
-    set_end l = sym (at_drop_all (λ (cs : List ℕ). is_set_by t cs w) list i l)
+  here : (i n : ℕ) → cond (nat_lt 0 (suc n)) (Some (i + 0)) None ≡ Some i
+  here i n = grind (arith, nat_tests)
+
+  unlisted_from : (i : ℕ) (list : List ℕ) → found i list ≡ first_unlisted t a i list
+  unfolding found
+  unlisted_from i [] = refl
+  unlisted_from i (b ∷ rest) = go (listable t a b) refl (unlisted_from (suc i) rest)
+    where
+      go : (l : Bool) → listable t a b ≡ l → found (suc i) rest ≡ first_unlisted t a (suc i) rest → found i (b ∷ rest) ≡ elim l [ true ↦ first_unlisted t a (suc i) rest | false ↦ Some i ]
+      go true e more = rw e (later i (position_or_len (λ other. not (listable t a other)) rest) (length rest) ∙ more)
+      go false e more = rw e (here i (length rest))
+
+  start : (list : List ℕ) → found 0 list ≡ position (λ other. not (listable t a other)) list
+  unfolding found
+  start list = let e : 0 + position_or_len (λ other. not (listable t a other)) list ≡ position_or_len (λ other. not (listable t a other)) list = omega arith in rw e refl
+
+  pub unlisted_position : (list : List ℕ) → position (λ other. not (listable t a other)) list ≡ first_unlisted t a 0 list
+  unlisted_position list = sym (start list) ∙ unlisted_from 0 list

@@ -1,13 +1,14 @@
 // When a step is refused, on any priced task.
 #![tactic(auto)]
 
-ghost use Rattle.std.specs.Prelude.{◌≡◌};
+ghost use Rattle.std.specs.Prelude.{◌≡◌, if◌then◌else◌, Ok, Err};
 ghost use Rattle.tasks.specs.Task.{priced};
-ghost use Rattle.reductions.specs.Steps.{merge as merge_step, generalise as generalise_step, variable as variable_step, action as action_step, abstract as abstract_step};
-ghost use Rattle.reductions.specs.Acceptance.{refusal_of};
-ghost use Rattle.reductions.specs.Named.{step_of};
+ghost use Rattle.tasks.specs.declared.refusal.Cause.TheVariants.{NotLive};
+ghost use Rattle.reductions.specs.Steps.{variable as variable_step, action as action_step, abstract as abstract_step};
+ghost use Rattle.reductions.specs.Acceptance.{refusal_of, answer_of};
+ghost use Rattle.reductions.specs.Named.{merge_of, generalise_of, step_of};
 
-use reductions::Step;
+use reductions::{Generalise, Merge, Step};
 use tasks::{Cause, Priced, Refusal, Task};
 
 mod counting;
@@ -23,125 +24,98 @@ use moves::is_move;
 use reaching::is_connected;
 use twins::are_twins;
 
-// The numbers in the order in which the step is written.
-fn merge_refusal<T: Priced>(
-    task: &T,
-    variable: u8,
-    from: u8,
-    to: u8,
-    forward: u16,
-    back: u16,
-) -> Option<Refusal>
-    ensures { result ≡ refusal_of (priced (T.Task.meant task.now) (T.Priced.tariff task.now)) (merge_step variable from to forward back) }
+// Refused at the position of a number, in the order in which the step is written, unless it is live.
+fn must_be_live(live: bool, position: usize) -> Result<(), Refusal>
+    ensures { result ≡ (if live then Ok tt else Err (record { cause = NotLive; place = position })) }
 {
-    if !task.variable_live(variable) {
-        return Some(Cause::NotLive.at(0));
+    if live {
+        Ok(())
+    } else {
+        Err(Cause::NotLive.at(position))
     }
-    if !task.value_live(variable, from) {
-        return Some(Cause::NotLive.at(1));
-    }
-    if !task.value_live(variable, to) {
-        return Some(Cause::NotLive.at(2));
-    }
-    if !task.action_live(forward) {
-        return Some(Cause::NotLive.at(3));
-    }
-    if !task.action_live(back) {
-        return Some(Cause::NotLive.at(4));
-    }
-    if from != to
+}
+
+// Refused for a cause unless the other conditions hold.
+fn must_fit(fits: bool, cause: Cause) -> Result<(), Refusal>
+    ensures { result ≡ (if fits then Ok tt else Err (record { cause = cause; place = 0 })) }
+{
+    if fits { Ok(()) } else { Err(cause.at(0)) }
+}
+
+fn accept_merge<T: Priced>(task: &T, step: Merge) -> Result<(), Refusal>
+    ensures { result ≡ answer_of (refusal_of (priced (T.Task.meant task.now) (T.Priced.tariff task.now)) (merge_of step)) }
+{
+    let Merge {
+        variable,
+        from,
+        to,
+        forward,
+        back,
+    } = step;
+    must_be_live(task.variable_live(variable), 0)?;
+    must_be_live(task.value_live(variable, from), 1)?;
+    must_be_live(task.value_live(variable, to), 2)?;
+    must_be_live(task.action_live(forward), 3)?;
+    must_be_live(task.action_live(back), 4)?;
+    let fits = from != to
         && is_move(task, forward, variable, from, to)
-        && is_move(task, back, variable, to, from)
-    {
-        None
-    } else {
-        Some(Cause::MergeUnfit.at(0))
-    }
+        && is_move(task, back, variable, to, from);
+    must_fit(fits, Cause::MergeUnfit)
 }
 
-fn generalise_refusal<T: Priced>(task: &T, variable: u8, action: u16, twin: u16) -> Option<Refusal>
-    ensures { result ≡ refusal_of (priced (T.Task.meant task.now) (T.Priced.tariff task.now)) (generalise_step variable action twin) }
+fn accept_generalise<T: Priced>(task: &T, step: Generalise) -> Result<(), Refusal>
+    ensures { result ≡ answer_of (refusal_of (priced (T.Task.meant task.now) (T.Priced.tariff task.now)) (generalise_of step)) }
 {
-    if !task.variable_live(variable) {
-        return Some(Cause::NotLive.at(0));
-    }
-    if !task.action_live(action) {
-        return Some(Cause::NotLive.at(1));
-    }
-    if !task.action_live(twin) {
-        return Some(Cause::NotLive.at(2));
-    }
-    if live_values(task, variable) == 2 && are_twins(task, variable, action, twin) {
-        None
-    } else {
-        Some(Cause::GeneraliseUnfit.at(0))
-    }
+    must_be_live(task.variable_live(step.variable), 0)?;
+    must_be_live(task.action_live(step.action), 1)?;
+    must_be_live(task.action_live(step.twin), 2)?;
+    let fits = live_values(task, step.variable) == 2 && are_twins(task, step);
+    must_fit(fits, Cause::GeneraliseUnfit)
 }
 
-fn variable_refusal<T: Priced>(task: &T, variable: u8) -> Option<Refusal>
-    ensures { result ≡ refusal_of (priced (T.Task.meant task.now) (T.Priced.tariff task.now)) (variable_step variable) }
+fn accept_variable<T: Priced>(task: &T, variable: u8) -> Result<(), Refusal>
+    ensures { result ≡ answer_of (refusal_of (priced (T.Task.meant task.now) (T.Priced.tariff task.now)) (variable_step variable)) }
 {
-    if !task.variable_live(variable) {
-        return Some(Cause::NotLive.at(0));
-    }
-    if live_values(task, variable) == 1 {
-        None
-    } else {
-        Some(Cause::VariableUnfit.at(0))
-    }
+    must_be_live(task.variable_live(variable), 0)?;
+    must_fit(live_values(task, variable) == 1, Cause::VariableUnfit)
 }
 
-fn action_refusal<T: Priced>(task: &T, action: u16, list: &[u16]) -> Option<Refusal>
-    ensures { result ≡ refusal_of (priced (T.Task.meant task.now) (T.Priced.tariff task.now)) (action_step action list.now) }
+fn accept_action<T: Priced>(task: &T, action: u16, list: &[u16]) -> Result<(), Refusal>
+    ensures { result ≡ answer_of (refusal_of (priced (T.Task.meant task.now) (T.Priced.tariff task.now)) (action_step action list.now)) }
 {
-    if !task.action_live(action) {
-        return Some(Cause::NotLive.at(0));
-    }
+    must_be_live(task.action_live(action), 0)?;
     if list.len() > 8 {
-        return Some(Cause::ListUnfit.at(8));
+        return Err(Cause::ListUnfit.at(8));
     }
     if let Some(place) = first_unlisted(task, action, list) {
-        return Some(Cause::ListUnfit.at(place));
+        return Err(Cause::ListUnfit.at(place));
     }
-    if stands_in_for(task, list, action) {
-        None
-    } else {
-        Some(Cause::ActionUnfit.at(0))
-    }
+    must_fit(stands_in_for(task, list, action), Cause::ActionUnfit)
 }
 
-fn abstract_refusal<T: Priced>(task: &T, variable: u8) -> Option<Refusal>
-    ensures { result ≡ refusal_of (priced (T.Task.meant task.now) (T.Priced.tariff task.now)) (abstract_step variable) }
+fn accept_abstract<T: Priced>(task: &T, variable: u8) -> Result<(), Refusal>
+    ensures { result ≡ answer_of (refusal_of (priced (T.Task.meant task.now) (T.Priced.tariff task.now)) (abstract_step variable)) }
 {
-    if !task.variable_live(variable) {
-        return Some(Cause::NotLive.at(0));
-    }
-    if is_connected(task, variable) {
-        None
-    } else {
-        Some(Cause::AbstractUnfit.at(0))
+    must_be_live(task.variable_live(variable), 0)?;
+    must_fit(is_connected(task, variable), Cause::AbstractUnfit)
+}
+
+// Refused where a number that the step names is not live, at its position; then for its list; then for its conditions.
+pub fn accept<T: Priced>(task: &T, step: &Step) -> Result<(), Refusal>
+    ensures { result ≡ answer_of (refusal_of (priced (T.Task.meant task.now) (T.Priced.tariff task.now)) (step_of step.now)) }
+{
+    match *step {
+        Step::Merge(step) => accept_merge(task, step),
+        Step::Generalise(step) => accept_generalise(task, step),
+        Step::Variable { variable } => accept_variable(task, variable),
+        Step::Action { action, list } => accept_action(task, action, list),
+        Step::Abstract { variable } => accept_abstract(task, variable),
     }
 }
 
-// Why the step is refused, if it is: a number that it names is not live, at its position; then its list; then its conditions.
+// Why the step is refused, if it is.
 pub fn refusal_of<T: Priced>(task: &T, step: &Step) -> Option<Refusal>
     ensures { result ≡ refusal_of (priced (T.Task.meant task.now) (T.Priced.tariff task.now)) (step_of step.now) }
 {
-    match *step {
-        Step::Merge {
-            variable,
-            from,
-            to,
-            forward,
-            back,
-        } => merge_refusal(task, variable, from, to, forward, back),
-        Step::Generalise {
-            variable,
-            action,
-            twin,
-        } => generalise_refusal(task, variable, action, twin),
-        Step::Variable { variable } => variable_refusal(task, variable),
-        Step::Action { action, list } => action_refusal(task, action, list),
-        Step::Abstract { variable } => abstract_refusal(task, variable),
-    }
+    accept(task, step).err()
 }

@@ -6,7 +6,6 @@ ghost use Rattle.reductions.specs.Acceptance.{listable as may_stand, first_unlis
 ghost use Rattle.acceptance.specs.Knowns.{knows, known_in};
 
 use crate::known::Known;
-use crate::twins::same_value;
 use tasks::Task;
 
 // Whether the other may stand in the list of the action: it is live and another.
@@ -20,12 +19,8 @@ fn listable<T: Task>(task: &T, action: u16, other: u16) -> bool
 pub fn first_unlisted<T: Task>(task: &T, action: u16, list: &[u16]) -> Option<usize>
     ensures { result ≡ first_unlisted (T.meant task.now) action 0 list.now }
 {
-    for (place, other) in list.iter().enumerate() {
-        if !listable(task, action, *other) {
-            return Some(place);
-        }
-    }
-    None
+    list.iter()
+        .position(|other| !listable(task, action, *other))
 }
 
 // What is known after the list, or nothing where one of its actions needs more than is known.
@@ -46,12 +41,8 @@ fn known_after<T: Task>(task: &T, action: u16, list: &[u16]) -> Option<Known>
 fn is_set_by<T: Task>(task: &T, list: &[u16], variable: u8) -> bool
     ensures { result ≡ is_set_by (T.meant task.now) list.now variable }
 {
-    for other in list {
-        if task.effect(*other, variable).is_some() {
-            return true;
-        }
-    }
-    false
+    list.iter()
+        .any(|other| task.effect(*other, variable).is_some())
 }
 
 // Whether the variable ends as after the action: with its effect, or as the action required it if only the list sets it.
@@ -63,7 +54,7 @@ fn ends_alike<T: Task>(task: &T, action: u16, list: &[u16], known: &Known, varia
         None => {
             let before = task.precondition(action, variable);
             !is_set_by(task, list, variable)
-                || (before.is_some() && same_value(before, known.value(variable)))
+                || (before.is_some() && before == known.value(variable))
         }
     }
 }
@@ -71,20 +62,12 @@ fn ends_alike<T: Task>(task: &T, action: u16, list: &[u16], known: &Known, varia
 fn all_end_alike<T: Task>(task: &T, action: u16, list: &[u16], known: &Known) -> bool
     ensures { result ≡ all_below (T.meant task.now).vars (λ w. stands_in ((T.meant task.now).eff action w) ((T.meant task.now).pre action w) (is_set_by (T.meant task.now) list.now w) (knows known.now w)) }
 {
-    for w in 0..task.variables() {
-        if !ends_alike(task, action, list, known, w) {
-            return false;
-        }
-    }
-    true
+    (0..task.variables()).all(|w| ends_alike(task, action, list, known, w))
 }
 
 // Whether the list stands in for the action.
 pub fn stands_in_for<T: Task>(task: &T, list: &[u16], action: u16) -> bool
     ensures { result ≡ has_effect_of (T.meant task.now) action list.now (known_after (T.meant task.now) ((T.meant task.now).pre action) list.now) }
 {
-    match known_after(task, action, list) {
-        Some(known) => all_end_alike(task, action, list, &known),
-        None => false,
-    }
+    known_after(task, action, list).is_some_and(|known| all_end_alike(task, action, list, &known))
 }

@@ -1,5 +1,5 @@
 -- A step is not refused exactly when it is accepted.
-use Rattle.std.proofs.Common.{◌≡◌, ℕ, suc, ◌<◌, Bool, true, false, cond, not, ◌&&◌, ltb, leb, List, [], ◌∷◌, length, is_some, Some, None, Option, sym, refl, ap, ◌∙◌, ⊎_elim}
+use Rattle.std.proofs.Common.{◌≡◌, ℕ, suc, ◌<◌, Bool, true, false, cond, not, ◌&&◌, ltb, leb, List, [], ◌∷◌, length, is_some, Some, None, Option, Ok, Err, Result, sym, refl, ap, ◌∙◌, ⊎_elim}
 use Rattle.std.proofs.lemmas.Bool.{true≢false, not-false, not_from_true, leb-false, lt-leb, le-leb, le-ltb, lt-ltb, cases_lt}
 use Rattle.tasks.specs.declared.refusal.Cause.{Cause}
 use Rattle.tasks.specs.declared.refusal.Cause.TheVariants.{PileFull, NotLive, MergeUnfit, GeneraliseUnfit, VariableUnfit, ListUnfit, ActionUnfit, AbstractUnfit}
@@ -8,7 +8,7 @@ use Rattle.tasks.specs.Refusals.{refuse}
 use Rattle.tasks.specs.Task.{Priced}
 use Rattle.tasks.proofs.Refusing.{pass, pass_from}
 use Rattle.reductions.specs.Steps.{Step, merge, generalise, variable, action, abstract, fits}
-use Rattle.reductions.specs.Acceptance.{listable, all_in, accepted, unless_fits, first_unlisted, list_refusal, refusal_of, adding_refusal}
+use Rattle.reductions.specs.Acceptance.{answer_of, listable, all_in, accepted, unless_fits, first_unlisted, list_refusal, refusal_of, adding_refusal}
 
 -- each kind of step, by its tests
 unfit_refused : (f : Bool) (cause : Cause) → is_some (unless_fits f cause) ≡ not f
@@ -76,3 +76,8 @@ adding_at standing p s h =
 
 pub adding_from : (standing : ℕ) (p : Priced) (s : Step) → standing < 128 → accepted p s ≡ true → adding_refusal standing p s ≡ None
 adding_from standing p s few h = pass_from (leb 128 standing) (record { cause = PileFull; place = 0 }) (refusal_of p s) (lt-leb 128 standing few) (accepted_from p s h)
+
+-- what is answered well is not refused
+pub answered_ok : (r : Result (Unit {0}) Refusal) (o : Option Refusal) (u : Unit {0}) → r ≡ Ok u → r ≡ answer_of o → o ≡ None
+answered_ok r None u e is = refl
+answered_ok r (Some x) u e is = let no : ◌≡◌ {A = Result (Unit {0}) Refusal} (Ok u) (Err x) = sym e ∙ is in cc

@@ -1,5 +1,5 @@
 -- When a step is accepted, and how it is refused.
-use Rattle.std.specs.Prelude.{ℕ, suc, Bool, true, false, cond, not, ◌&&◌, List, [], ◌∷◌, length, Some, None, Option, ◌==◌, nat_le, nat_lt}
+use Rattle.std.specs.Prelude.{ℕ, suc, Bool, true, false, cond, not, ◌&&◌, List, [], ◌∷◌, length, Some, None, Option, Ok, Err, Result, ◌==◌, nat_le, nat_lt}
 use Rattle.tasks.specs.declared.refusal.Cause.{Cause}
 use Rattle.tasks.specs.declared.refusal.Cause.TheVariants.{PileFull, NotLive, MergeUnfit, GeneraliseUnfit, VariableUnfit, ListUnfit, ActionUnfit, AbstractUnfit}
 use Rattle.tasks.specs.declared.refusal.Refusal.{Refusal}
@@ -63,3 +63,8 @@ refusal_of p (abstract v) = cond (not (p.task.var_live v)) (refuse NotLive 0) (u
 -- the same on a pile on which so many steps stand, 128 at most
 abbrev pub adding_refusal : ℕ → Priced → Step → Option Refusal
 adding_refusal standing p s = cond (nat_le 128 standing) (refuse PileFull 0) (refusal_of p s)
+
+-- what is answered: nothing, or the refusal as an error
+abbrev pub answer_of : Option Refusal → Result (Unit {0}) Refusal
+answer_of None = Ok tt
+answer_of (Some e) = Err e

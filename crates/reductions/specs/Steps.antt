@@ -1,6 +1,6 @@
 -- The five steps that reduce a task, and when one fits.
-use Rattle.std.specs.Prelude.{ℕ, zero, suc, ◌+◌, Bool, true, false, cond, not, ◌&&◌, ◌||◌, List, [], ◌∷◌, Some, None, Option, ◌==◌}
-use Rattle.tasks.specs.Bounds.{all_below}
+use Rattle.std.specs.Prelude.{ℕ, Bool, true, false, cond, not, ◌&&◌, ◌||◌, List, [], ◌∷◌, Some, None, Option, ◌==◌}
+use Rattle.tasks.specs.Bounds.{all_below, count_below}
 use Rattle.tasks.specs.Task.{Task, Priced}
 use Rattle.detours.specs.Free.{absent, unmentioned}
 use Rattle.reductions.specs.Reaching.{connected}
@@ -34,8 +34,7 @@ is_move t a v x y = all_below t.vars (λ w. cond (w == v) (has_value x (t.pre a 
 
 -- how many values of v below n are live
 abbrev pub live_values : Task → ℕ → ℕ → ℕ
-live_values t v zero = 0
-live_values t v (suc n) = cond (t.val_live v n) 1 0 + live_values t v n
+live_values t v n = count_below n (t.val_live v)
 
 -- a and b require and set the same on every variable but v
 abbrev pub agree_except : Task → ℕ → ℕ → ℕ → Bool

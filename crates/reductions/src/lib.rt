@@ -4,4 +4,4 @@
 pub mod step;
 pub mod theorems;
 
-pub use step::Step;
+pub use step::{Generalise, Merge, Step};

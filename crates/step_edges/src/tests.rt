@@ -1,7 +1,7 @@
 use acceptance::refusal_of;
 use floors::{Floor, Survey};
 use packed::File;
-use reductions::Step;
+use reductions::{Generalise, Merge, Step};
 use std::alloc::{AllocError, Global};
 use std::process::Abort;
 use std::test::Fail;
@@ -197,21 +197,21 @@ fn refused(cause: Cause, place: usize) -> Option<Refusal> {
 }
 
 fn merge<'a>(variable: u8, from: u8, to: u8, forward: u16, back: u16) -> Step<'a> {
-    Step::Merge {
+    Step::Merge(Merge {
         variable,
         from,
         to,
         forward,
         back,
-    }
+    })
 }
 
 fn generalise<'a>(variable: u8, action: u16, twin: u16) -> Step<'a> {
-    Step::Generalise {
+    Step::Generalise(Generalise {
         variable,
         action,
         twin,
-    }
+    })
 }
 
 fn retire<'a>(variable: u8) -> Step<'a> {

@@ -1,11 +1,6 @@
-pub mod Reading
-pub mod Filling
-pub mod Copied
-pub mod ApplyAlike
-pub mod ApplyWrites
-pub mod ApplySweeps
-pub mod ApplyAccepted
-pub mod ApplyRetiring
-pub mod ApplyDropping
-pub mod ApplyFreeing
-pub mod ApplyRenaming
+pub mod Alike
+pub mod Writes
+pub mod Retiring
+pub mod Dropping
+pub mod Renaming
+pub mod Copying

@@ -1,14 +1,10 @@
 -- What a step that is offered to a table comes to.
-use Rattle.std.specs.Prelude.{ℕ, Some, None, Ok, Err, Option, Result}
+use Rattle.std.specs.Prelude.{ℕ, Some, None, Option, Result}
 use Rattle.tasks.specs.declared.refusal.Refusal.{Refusal}
 use Rattle.tasks.specs.Task.{Priced}
 use Rattle.reductions.specs.Steps.{Step}
-use Rattle.reductions.specs.Acceptance.{adding_refusal}
+use Rattle.reductions.specs.Acceptance.{adding_refusal, answer_of}
 use Rattle.reductions.specs.Applying.{applied}
-
-abbrev pub answer_of : Option Refusal → Result (Unit {0}) Refusal
-answer_of None = Ok tt
-answer_of (Some e) = Err e
 
 abbrev pub left_by : Option Refusal → Priced → Step → Priced
 left_by None p s = applied p s

@@ -1,5 +1,5 @@
 -- What a call of undoing comes to, from what was written.
-use Rattle.std.proofs.Common.{◌≡◌, ℕ, ◌-◌, Bool, false, cond, eqb, leb, List, ◌++◌, length, drop, replicate, Some, None, Ok, Err, sym, ap, ◌∙◌, ap₂, arith, le-leb}
+use Rattle.std.proofs.Common.{◌≡◌, ℕ, ◌-◌, Bool, false, cond, eqb, leb, List, ◌++◌, length, drop, replicate, Ok, Err, sym, ap, ◌∙◌, ap₂, arith, le-leb}
 use borrow.Author.Tests.{lt-leb}
 use Rattle.std.proofs.lemmas.Bool.{eq-eqb}
 use Rattle.std.proofs.lemmas.List.{take-append-drop, length-replicate, drop-replicate}
@@ -7,6 +7,7 @@ use Rattle.tasks.specs.declared.refusal.Cause.TheVariants.{BufferSizes, BufferSh
 use Rattle.tasks.specs.Task.{Priced}
 use Rattle.tasks.specs.Measures.{CostAlgebra}
 use Rattle.tasks.specs.Totals.{total}
+use Rattle.undoing.specs.declared.writing.Full.{Full}
 use Rattle.undoing.specs.declared.undone.Undone.{Undone}
 use Rattle.reductions.specs.Steps.{Step}
 use Rattle.reductions.specs.Undoing.{undone, inserted}
@@ -43,7 +44,7 @@ module _ {S : Type 0} (m : CostAlgebra S) (p : Priced) (s : Step) (list buffer :
     table_is : left ≡ replicate 64 m.nothing
     table_is = none_left ∙ ap (λ (n : ℕ). replicate n m.nothing) mid-sizes
 
-    pub outcome_fits : (u : Undone S) (after : List ℕ) → Undid m p whole (inserted m p s list) zeros 0 after (Some u) → record { said = Ok u; buffer = after; table = left } ≡ undo_outcome m p s list buffer table
+    pub outcome_fits : (u : Undone S) (after : List ℕ) → Undid m p whole (inserted m p s list) zeros after (Ok u) → record { said = Ok u; buffer = after; table = left } ≡ undo_outcome m p s list buffer table
     unfolding sized fitting
     outcome_fits u after w =
         let long : u.length ≡ length whole = omega (arith, w.0.ends) in
@@ -52,9 +53,9 @@ module _ {S : Type 0} (m : CostAlgebra S) (p : Priced) (s : Step) (list buffer :
         (λ i. record { said = Ok (answer i); buffer = filled i; table = table_is i })
         ∙ sym (ap sized (eq-eqb (length table) 64 sizes) ∙ ap fitting (le-leb (length whole) (length buffer) (omega (arith, w.0.within, zeros_long))))
 
-    pub outcome_short : (mid after : List ℕ) → Undid m p whole (inserted m p s list) zeros 0 mid None → after ≡ replicate (length mid) 0 → record { said = Err (record { cause = BufferShort; place = 0 }); buffer = after; table = left } ≡ undo_outcome m p s list buffer table
+    pub outcome_short : (mid after : List ℕ) (e : Full) → Undid m p whole (inserted m p s list) zeros mid (Err e) → after ≡ replicate (length mid) 0 → record { said = Err (record { cause = BufferShort; place = 0 }); buffer = after; table = left } ≡ undo_outcome m p s list buffer table
     unfolding sized fitting
-    outcome_short mid after w zeroed =
+    outcome_short mid after e w zeroed =
         let filled : after ≡ replicate (length buffer) 0 = zeroed ∙ ap (λ (n : ℕ). replicate n 0) (w.1 ∙ zeros_long) in
         (λ i. record { said = Err (record { cause = BufferShort; place = 0 }); buffer = filled i; table = table_is i })
         ∙ sym (ap sized (eq-eqb (length table) 64 sizes) ∙ ap fitting (lt-leb (length whole) (length buffer) (omega (arith, w.0, zeros_long))))

@@ -1,16 +1,18 @@
 -- Lists written one behind another.
-use Rattle.std.proofs.Common.{◌≡◌, ℕ, ◌+◌, ◌-◌, ◌<◌, ◌≤◌, List, [], ◌∷◌, ◌++◌, length, get_or, take, drop, set, Some, None, Option, sym, refl, ap, ◌∙◌, subst, add-zero, arith, length-append}
-use Rattle.std.proofs.lemmas.List.{append-nil, append_assoc, take_more_set, drop-set-lt, drop-drop, drop_more, drop_all, length-set}
-use Rattle.undoing.specs.Writing.{Wrote}
+use Rattle.std.proofs.Common.{◌≡◌, ℕ, ◌+◌, ◌-◌, ◌<◌, ◌≤◌, List, [], ◌∷◌, ◌++◌, length, get_or, take, drop, Some, None, Option, Ok, Err, Result, sym, refl, ap, ◌∙◌, subst, add-zero, arith, length-append}
+use Rattle.std.proofs.lemmas.Bool.{false≢true}
+use Rattle.std.proofs.lemmas.List.{append-nil, append_assoc, drop-drop, drop_more, drop_all}
+use Rattle.std.specs.Result.{IsErr}
+use Rattle.undoing.specs.declared.writing.Full.{Full}
+use Rattle.undoing.specs.Writing.{Wrote, end_of}
 
 pub wrote_nothing : (out : List ℕ) (at : ℕ) → at ≤ length out → Wrote out at [] out (Some at)
 wrote_nothing out at l = record { ends = sym (add-zero at); within = l; same_length = refl; written = sym (append-nil (take at out)); left = refl }
 
-pub wrote_one : (out : List ℕ) (at a : ℕ) → at < length out → Wrote out at (a ∷ []) (set out at a) (Some (at + 1))
-wrote_one out at a l = record { ends = refl; within = omega arith; same_length = length-set out at a; written = take_more_set out at a l; left = drop-set-lt (at + 1) out at a (omega arith) }
-
-pub wrote_full : (out : List ℕ) (at a : ℕ) → length out ≤ at → Wrote out at (a ∷ []) out None
-wrote_full out at a l = (omega arith, refl)
+-- where a call answers an error nothing more is asked
+pub wrote_err : {X : Type 0} (r : Result X Full) → IsErr r → (before : List ℕ) (at : ℕ) (list after : List ℕ) (end : ℕ) → Wrote before at list after None → Wrote before at list after (end_of end r)
+wrote_err (Ok x) e before at list after end w = absurd (false≢true e)
+wrote_err (Err x) e before at list after end w = w
 
 -- what follows does not matter where the first does not fit
 pub wrote_fails : (before : List ℕ) (at : ℕ) (xs ys after : List ℕ) → Wrote before at xs after None → Wrote before at (xs ++ ys) after None

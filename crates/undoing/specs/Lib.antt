@@ -1,4 +1,3 @@
 pub mod Bringings
 pub mod Writing
-pub mod Refining
 pub mod UndoCalls

@@ -2,22 +2,23 @@
 ghost use Rattle.std.specs.Prelude.{◌≡◌, [], ◌∷◌, length};
 ghost use Rattle.tasks.specs.Task.{priced};
 ghost use Rattle.detours.specs.Paths.{found_in};
-ghost use Rattle.reductions.specs.Undoing.{merge_connector, detour_connector, connect as connected, with_total};
-ghost use Rattle.undoing.specs.Bringings.{connector_of};
+ghost use Rattle.reductions.specs.Undoing.{merge_connector, detour_connector, with_total};
+ghost use Rattle.undoing.specs.Bringings.{Way};
 
 use detours::{Path, detour};
+use reductions::Merge;
 use tasks::{Measure, Priced, Task};
 
-// How it is brought: by the two actions of a merge step, or by detours.
-#[derive(Clone, Copy)]
-pub enum Bringing {
-    Moves {
-        from: u8,
-        to: u8,
-        forward: u16,
-        back: u16,
-    },
-    Detours,
+// What brings the variable of a step that is undone from one value to another.
+pub trait Bringing<T: Priced, M: Measure> {
+    ghost way: { Self → Way };
+
+    fn variable(&self) -> u8
+        ensures { result ≡ (way self.now).variable };
+
+    fn bring(&mut self, task: &T, value: u8, wanted: u8) -> Path<M::Total>
+        ensures path { found_in result ≡ with_total M.Measure.scale (priced (T.Task.meant task.now) (T.Priced.tariff task.now)) ((way self.old).connector (priced (T.Task.meant task.now) (T.Priced.tariff task.now)) value wanted) }
+        ensures same_way { way self.new ≡ way self.old };
 }
 
 // An action with its weight.
@@ -27,66 +28,43 @@ fn single<T: Priced, M: Measure>(task: &T, action: u16) -> Path<M::Total>
     Path::single(action, M::weight(task.price(action)))
 }
 
-// The one action of a merge step that leads from a value to another, if one does.
-fn move_between<T: Priced, M: Measure>(
-    task: &T,
-    from: u8,
-    to: u8,
-    forward: u16,
-    back: u16,
-    value: u8,
-    wanted: u8,
-) -> Path<M::Total>
-    ensures { found_in result ≡ with_total M.Measure.scale (priced (T.Task.meant task.now) (T.Priced.tariff task.now)) (merge_connector from to forward back value wanted) }
-{
-    if value == to && wanted == from {
-        return single::<T, M>(task, back);
-    }
-    if value == from && wanted == to {
-        return single::<T, M>(task, forward);
-    }
-    Path::empty(M::nothing())
-}
+// By the one of its two actions that leads from the value to the other, if one does.
+impl<T: Priced, M: Measure> Bringing<T, M> for Merge {
+    ghost way = { λ s. record { variable = s.variable; connector = λ p. merge_connector s.from s.to s.forward s.back } };
 
-// The detour from a value to another, or no action where there is none.
-fn detour_between<T: Priced, M: Measure>(
-    task: &T,
-    variable: u8,
-    value: u8,
-    wanted: u8,
-    table: &mut [M::Total],
-) -> Path<M::Total>
-    requires { length table.old ≡ 64 }
-    ensures { (found_in result ≡ with_total M.Measure.scale (priced (T.Task.meant task.now) (T.Priced.tariff task.now)) (detour_connector M.Measure.scale (priced (T.Task.meant task.now) (T.Priced.tariff task.now)) variable value wanted)) × (length table.new ≡ 64) }
-{
-    match detour::<T, M>(task, variable, value, wanted, table) {
-        Some(path) => path,
-        None => Path::empty(M::nothing()),
+    fn variable(&self) -> u8 {
+        self.variable
+    }
+
+    fn bring(&mut self, task: &T, value: u8, wanted: u8) -> Path<M::Total> {
+        if value == self.to && wanted == self.from {
+            return single::<T, M>(task, self.back);
+        }
+        if value == self.from && wanted == self.to {
+            return single::<T, M>(task, self.forward);
+        }
+        Path::empty(M::nothing())
     }
 }
 
-// The actions that bring the variable from its value to the one that is wanted, if one is.
-pub fn bring<T: Priced, M: Measure>(
-    task: &T,
-    variable: u8,
-    by: Bringing,
-    value: u8,
-    wanted: Option<u8>,
-    table: &mut [M::Total],
-) -> Path<M::Total>
-    requires { length table.old ≡ 64 }
-    ensures { (found_in result ≡ with_total M.Measure.scale (priced (T.Task.meant task.now) (T.Priced.tariff task.now)) (connected (connector_of M.Measure.scale (priced (T.Task.meant task.now) (T.Priced.tariff task.now)) variable by) value wanted)) × (length table.new ≡ 64) }
-{
-    let Some(wanted) = wanted else {
-        return Path::empty(M::nothing());
-    };
-    match by {
-        Bringing::Moves {
-            from,
-            to,
-            forward,
-            back,
-        } => move_between::<T, M>(task, from, to, forward, back, value, wanted),
-        Bringing::Detours => detour_between::<T, M>(task, variable, value, wanted, table),
+// By detours of the variable, which are searched in the caller's table.
+#[derive(Drop)]
+pub struct Detours<'a, M: Measure> {
+    pub variable: u8,
+    pub table: &'a mut [M::Total],
+    ghost long: { length table.now ≡ 64 },
+}
+
+impl<T: Priced, M: Measure> Bringing<T, M> for Detours<'_, M> {
+    ghost way = { λ s. record { variable = s.variable; connector = λ p. detour_connector M.Measure.scale p s.variable } };
+
+    fn variable(&self) -> u8 {
+        self.variable
+    }
+
+    fn bring(&mut self, task: &T, value: u8, wanted: u8) -> Path<M::Total> {
+        detour::<T, M>(task, self.variable, value, wanted, self.table).unwrap_or_else(
+            || Path::empty(M::nothing()),
+        )
     }
 }

@@ -1,7 +1,7 @@
 // Undoing a step: what a plan of the task after it becomes in the task before.
 #![tactic(auto)]
 
-ghost use Rattle.std.specs.Prelude.{◌≡◌, length, replicate};
+ghost use Rattle.std.specs.Prelude.{◌≡◌, length};
 ghost use Rattle.tasks.specs.Task.{priced};
 ghost use Rattle.reductions.specs.Undoing.{undone as undone_list, inserted as inserted_list};
 ghost use Rattle.reductions.specs.Named.{step_of};
@@ -9,7 +9,7 @@ ghost use Rattle.undoing.specs.UndoCalls.{undo_outcome};
 ghost use Rattle.undoing.specs.Writing.{Undid};
 
 use detours::clear;
-use reductions::Step;
+use reductions::{Merge, Step};
 use tasks::{Cause, Measure, Priced, Refusal, Task};
 
 mod connecting;
@@ -18,11 +18,11 @@ mod specialising;
 pub mod undone;
 mod writing;
 
-use connecting::Bringing;
+use connecting::Detours;
 use refining::refine;
 use specialising::specialise;
 pub use undone::Undone;
-use writing::push_all;
+use writing::{Full, Writer};
 
 // Writes the list that is due from the front of the buffer, or answers that it does not fit.
 fn write_undone<T: Priced, M: Measure>(
@@ -31,54 +31,36 @@ fn write_undone<T: Priced, M: Measure>(
     list: &[u16],
     buffer: &mut [u16],
     table: &mut [M::Total],
-) -> Option<Undone<M::Total>>
+) -> Result<Undone<M::Total>, Full>
     requires { length table.old ≡ 64 }
-    ensures { (Undid M.Measure.scale (priced (T.Task.meant task.now) (T.Priced.tariff task.now)) (undone_list M.Measure.scale (priced (T.Task.meant task.now) (T.Priced.tariff task.now)) (step_of step.now) list.now) (inserted_list M.Measure.scale (priced (T.Task.meant task.now) (T.Priced.tariff task.now)) (step_of step.now) list.now) buffer.old 0 buffer.new result) × (length table.new ≡ 64) }
+    ensures { Undid M.Measure.scale (priced (T.Task.meant task.now) (T.Priced.tariff task.now)) (undone_list M.Measure.scale (priced (T.Task.meant task.now) (T.Priced.tariff task.now)) (step_of step.now) list.now) (inserted_list M.Measure.scale (priced (T.Task.meant task.now) (T.Priced.tariff task.now)) (step_of step.now) list.now) buffer.old buffer.new result }
 {
-    let length = match *step {
-        Step::Merge {
-            variable,
-            from,
-            to,
-            forward,
-            back,
-        } => {
-            let by = Bringing::Moves {
-                from,
-                to,
-                forward,
-                back,
-            };
-            return refine::<T, M>(task, variable, by, list, buffer, table);
-        }
+    let mut out = Writer::new(buffer);
+    let inserted = match *step {
+        Step::Merge(mut merge) => refine::<T, M, Merge>(task, &mut merge, list, &mut out)?,
         Step::Abstract { variable } => {
-            return refine::<T, M>(task, variable, Bringing::Detours, list, buffer, table);
+            let mut detours = Detours { variable, table };
+            refine::<T, M, Detours<'_, M>>(task, &mut detours, list, &mut out)?
         }
-        Step::Generalise {
-            variable,
-            action,
-            twin,
-        } => specialise(task, variable, action, twin, list, buffer)?,
-        Step::Variable { .. } | Step::Action { .. } => push_all(buffer, 0, list)?,
+        Step::Generalise(generalise) => {
+            specialise(task, &generalise, list, &mut out)?;
+            M::nothing()
+        }
+        Step::Variable { .. } | Step::Action { .. } => {
+            out.push_all(list)?;
+            M::nothing()
+        }
     };
-    Some(Undone {
-        length,
-        inserted: M::nothing(),
+    Ok(Undone {
+        length: out.written(),
+        inserted,
     })
-}
-
-// All entries are left at 0.
-fn clear_entries(buffer: &mut [u16])
-    ensures { buffer.new ≡ replicate (length buffer.old) 0 }
-{
-    for entry in buffer.iter_mut() {
-        *entry = 0;
-    }
 }
 
 // Undoes a step: the list, which is followed in the task before the step, is written into the buffer with zeros behind it.
 // Refused where the table is not of 64 totals, and then all is left alone, or where the list does not fit, and then the
 // buffer holds zeros; the table is left with totals for nothing.
+#[tactic(auto, using(crate::proofs::UndoOutcome::outcome_fits, crate::proofs::UndoOutcome::outcome_short))]
 pub fn undo<T: Priced, M: Measure>(
     task: &T,
     step: &Step,
@@ -91,13 +73,13 @@ pub fn undo<T: Priced, M: Measure>(
     if table.len() != 64 {
         return Err(Cause::BufferSizes.at(0));
     }
-    clear_entries(buffer);
+    buffer.fill(0);
     let undone = write_undone::<T, M>(task, step, list, buffer, table);
     clear::<M>(table);
     match undone {
-        Some(undone) => Ok(undone),
-        None => {
-            clear_entries(buffer);
+        Ok(undone) => Ok(undone),
+        Err(Full) => {
+            buffer.fill(0);
             Err(Cause::BufferShort.at(0))
         }
     }

@@ -1,60 +1,39 @@
 // Undoing a generalise step: the action becomes its twin where the variable has the value that the twin requires.
 ghost use Rattle.std.specs.Prelude.{◌≡◌, ◌&&◌, if◌then◌else◌, nat_eq};
-ghost use Rattle.tasks.specs.Plans.{over};
 ghost use Rattle.reductions.specs.Steps.{has_value};
 ghost use Rattle.reductions.specs.Undoing.{specialised};
-ghost use Rattle.undoing.specs.Writing.{Wrote};
+ghost use Rattle.undoing.specs.Writing.{Writes};
 
-use crate::writing::push;
+use crate::writing::{Full, Writer};
+use reductions::Generalise;
 use tasks::Task;
 
 // The twin, where another is the action and the variable has the value that the twin requires; else the other.
-fn specialise_one<T: Task>(
-    task: &T,
-    variable: u8,
-    action: u16,
-    twin: u16,
-    value: u8,
-    other: u16,
-) -> u16
-    ensures { result ≡ (if nat_eq other action && has_value value ((T.meant task.now).pre twin variable) then twin else other) }
+fn specialise_one<T: Task>(task: &T, step: &Generalise, value: u8, other: u16) -> u16
+    ensures { result ≡ (if nat_eq other step.now.action && has_value value ((T.meant task.now).pre step.now.twin step.now.variable) then step.now.twin else other) }
 {
-    match task.precondition(twin, variable) {
-        Some(required) if other == action && value == required => twin,
-        _ => other,
+    let required = task.precondition(step.twin, step.variable);
+    if other == step.action && required.is_some_and(|required| value == required) {
+        step.twin
+    } else {
+        other
     }
 }
 
-// What the variable has after the action.
-fn value_set<T: Task>(task: &T, variable: u8, action: u16, value: u8) -> u8
-    ensures { result ≡ over ((T.meant task.now).eff action variable) value }
-{
-    match task.effect(action, variable) {
-        Some(set) => set,
-        None => value,
-    }
-}
-
-// Follows the list with the variable's value. Answers where the list ends, or nothing where it does not fit.
+// Follows the list with the variable's value.
+#[tactic(auto, using(crate::proofs::WritingOn::wrote_err, crate::proofs::SpecialiseLoop::specialise_more, crate::proofs::SpecialiseLoop::specialise_fails, crate::proofs::SpecialiseLoop::specialise_end))]
 pub fn specialise<T: Task>(
     task: &T,
-    variable: u8,
-    action: u16,
-    twin: u16,
+    step: &Generalise,
     list: &[u16],
-    out: &mut [u16],
-) -> Option<usize>
-    ensures { Wrote out.old 0 (specialised (T.meant task.now) variable action twin ((T.meant task.now).init variable) list.now) out.new result }
+    out: &mut Writer<'_>,
+) -> Result<(), Full>
+    ensures { Writes out.old (specialised (T.meant task.now) step.now.variable step.now.action step.now.twin ((T.meant task.now).init step.now.variable) list.now) out.new result }
 {
-    let mut at = 0;
-    let mut value = task.initial(variable);
+    let mut value = task.initial(step.variable);
     for other in list {
-        at = push(
-            out,
-            at,
-            specialise_one(task, variable, action, twin, value, *other),
-        )?;
-        value = value_set(task, variable, *other, value);
+        out.push(specialise_one(task, step, value, *other))?;
+        value = task.effect(*other, step.variable).unwrap_or(value);
     }
-    Some(at)
+    Ok(())
 }

@@ -1,26 +1,55 @@
 // Writing a list into a buffer, one piece behind another.
-ghost use Rattle.std.specs.Prelude.{◌≤◌, [], ◌∷◌, length};
-ghost use Rattle.undoing.specs.Writing.{Wrote};
+ghost use Rattle.std.specs.Prelude.{◌≡◌, ◌≤◌, [], ◌∷◌, length};
 
-// Writes an action at a place. Answers the place behind it, or nothing where the buffer is full.
-pub fn push(out: &mut [u16], at: usize, action: u16) -> Option<usize>
-    ensures { Wrote out.old at (action ∷ []) out.new result }
-{
-    if at >= out.len() {
-        return None;
-    }
-    out[at] = action;
-    Some(at + 1)
+// The buffer is full.
+#[derive(Clone, Copy)]
+pub struct Full;
+
+// The front of the buffer is written.
+#[derive(Drop)]
+pub struct Writer<'a> {
+    buffer: &'a mut [u16],
+    written: usize,
+    ghost within: { written ≤ length buffer.now },
 }
 
-// Writes a list from a place on. Answers the place behind it, or nothing where it does not fit.
-pub fn push_all(out: &mut [u16], at: usize, list: &[u16]) -> Option<usize>
-    requires { at ≤ length out.old }
-    ensures { Wrote out.old at list.now out.new result }
-{
-    let mut end = at;
-    for action in list {
-        end = push(out, end, *action)?;
+impl<'a> Writer<'a> {
+    ghost use Rattle.undoing.specs.Writing.{Writes};
+
+    pub fn new(buffer: &'a mut [u16]) -> Self
+        ensures same_reference { result.buffer.ghost_name ≡ buffer.entry.ghost_name }
+        ensures blank { (result.buffer.now ≡ buffer.old) × (result.written ≡ 0) }
+    {
+        Writer { buffer, written: 0 }
     }
-    Some(end)
+
+    // How many actions are written.
+    pub fn written(&self) -> usize
+        ensures { result ≡ self.now.written }
+    {
+        self.written
+    }
+
+    // One action more.
+    pub fn push(&mut self, action: u16) -> Result<(), Full>
+        ensures { Writes self.old (action ∷ []) self.new result }
+    {
+        if self.written == self.buffer.len() {
+            return Err(Full);
+        }
+        self.buffer[self.written] = action;
+        self.written += 1;
+        Ok(())
+    }
+
+    // A list more. Where it does not fit, what fits of it is written.
+    #[tactic(auto, using(crate::proofs::WritingOn::wrote_err, crate::proofs::WritingOn::item_written, crate::proofs::WritingOn::item_fails, crate::proofs::WritingOn::items_end))]
+    pub fn push_all(&mut self, list: &[u16]) -> Result<(), Full>
+        ensures { Writes self.old list.now self.new result }
+    {
+        for action in list {
+            self.push(*action)?;
+        }
+        Ok(())
+    }
 }

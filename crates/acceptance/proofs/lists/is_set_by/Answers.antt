@@ -1,12 +1,13 @@
-use Rattle.std.proofs.Common.{◌∙◌, rules}
-use Rattle.acceptance.proofs.StandIns.{set_more, set_here, set_end}
+use Rattle.std.proofs.Common.{rules, not, ◌∙◌}
+use Rattle.std.proofs.lemmas.Iterator.{YieldsList-from_slice}
+use Rattle.std.proofs.lemmas.Iterator.Search.{any_from_yields_List}
+use borrow.Author.Tests.{tests}
+use Rattle.detours.specs.Free.{absent}
+use Rattle.acceptance.proofs.StandIns.{set_by_any}
 use Rattle.acceptance.proofs.lists.is_set_by.Goals as goal
 
-pub returns-then-is_some : goal.returns-then-is_some
-returns-then-is_some g c = set_here (g.T.Task.meant c.args.task.now) c.args.list.now c.args.variable c.loop-other.other-index c.loop-other-test.true (search rules) ∙ c.loop-other.invariant
-
-pub loop-other-preserved : goal.loop-other-preserved
-loop-other-preserved g c = set_more (g.T.Task.meant c.args.task.now) c.args.list.now c.args.variable c.loop-other.other-index c.loop-other-test.true (search rules) ∙ c.loop-other.invariant
-
 pub returns : goal.returns
-returns g c = set_end (g.T.Task.meant c.args.task.now) c.args.list.now c.args.variable c.loop-other.other-index c.loop-other-test.false ∙ c.loop-other.invariant
+returns g c =
+    let t = g.T.Task.meant c.args.task.now in
+    any_from_yields_List (λ a. not (absent (t.eff a c.args.variable))) _ _ _ c.any.ensures.ran (YieldsList-from_slice c.args.list.now c.iter.ensures.rest) (λ x b q k. search (rules, tests))
+    ∙ set_by_any t c.args.variable c.args.list.now

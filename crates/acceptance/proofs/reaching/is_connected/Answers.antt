@@ -1,19 +1,22 @@
-use Rattle.std.proofs.Common.{ℕ, Bool, not, ◌||◌, sym, ◌∙◌, arith}
-use Rattle.reductions.specs.Reaching.{reachable_from, all_marked}
-use Rattle.tasks.proofs.Bounded.{below_more, below_fails}
+use mathlib.Core.Path.{fun_ext}
+use Rattle.std.proofs.Common.{ℕ, Bool, List, rules, false, true, not, ◌||◌, ap, replicate, set, ◌∙◌, refl}
+use borrow.Author.Tests.{tests}
+use Rattle.tasks.specs.Task.{priced}
+use Rattle.tasks.specs.Bounds.{all_below}
+use Rattle.detours.specs.declared.edges.Edge.{Edge}
+use Rattle.detours.specs.Edges.{edges_in}
+use Rattle.reductions.specs.Reaching.{all_marked}
+use Rattle.acceptance.specs.Marking.{mark_rounds}
+use Rattle.tasks.proofs.Counted.{all_from_range}
+use Rattle.acceptance.proofs.GatheredMarks.{marks_are}
 use Rattle.acceptance.proofs.reaching.is_connected.Goals as goal
 
-pub returns-then-not-reaches_all : goal.returns-then-not-reaches_all
-returns-then-not-reaches_all g c =
+pub returns : goal.returns
+returns g c =
     let t = g.T.Task.meant c.args.task.now in
-    let test : ℕ → Bool = λ value. not (t.val_live c.args.variable value) || all_marked t c.args.variable (reachable_from t c.args.variable value) in
-    sym (below_fails (t.size c.args.variable) test c.loop-value.value (omega (arith, c.size-value-end.ensures)) (sym c.reaches_all.ensures ∙ c.if-not-reaches_all.true))
-
-pub loop-value-preserved : goal.loop-value-preserved
-loop-value-preserved g c =
-    let t = g.T.Task.meant c.args.task.now in
-    let test : ℕ → Bool = λ value. not (t.val_live c.args.variable value) || all_marked t c.args.variable (reachable_from t c.args.variable value) in
-    below_more c.loop-value.value test c.loop-value.invariant (sym c.reaches_all.ensures ∙ c.if-not-reaches_all.false)
-
-pub reaches_all-requires : goal.reaches_all-requires
-reaches_all-requires g c = (c.as_slice.ensures ∙ c.gather-edges.ensures, omega (arith, c.size-value-end.ensures, (g.met.T.Task.lawful c.args.task.now).size_most c.args.variable))
+    let p = priced t (g.T.Priced.tariff c.args.task.now) in
+    let v = c.args.variable in
+    let start : ℕ → List Bool = λ value. set (replicate 64 false) value true in
+    let edges : List Edge = edges_in c.gather-edges.result in
+    all_from_range (λ value. not (t.val_live v value) || all_marked t v (mark_rounds edges (t.size v) (start value))) (t.size v) _ _ _ c.all.ensures.ran (search rules) (λ x b q k. search (rules, tests))
+    ∙ ap (all_below (t.size v)) (fun_ext (λ value. ap (λ (marks : List Bool). not (t.val_live v value) || all_marked t v marks) (marks_are p v edges (t.size v) (start value) _ c.gather-edges.ensures refl)))

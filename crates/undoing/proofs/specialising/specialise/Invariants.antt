@@ -1,4 +1,4 @@
-use Rattle.std.proofs.Common.{ℕ, ◌≤◌, List, length, drop, Option}
+use Rattle.std.proofs.Common.{◌≡◌, ℕ, List, drop, Option}
 use Rattle.reductions.specs.Undoing.{specialised}
 use Rattle.undoing.specs.Writing.{Wrote}
 use Rattle.undoing.proofs.specialising.specialise.Given as goal
@@ -7,4 +7,7 @@ use Rattle.undoing.proofs.specialising.specialise.Given as goal
 abbrev pub invariant-loop-other : goal.invariant-loop-other
 invariant-loop-other g l =
     let t = g.T.Task.meant l.task in
-    (l.at ≤ length l.out) × ((after : List ℕ) (o : Option ℕ) → Wrote l.out l.at (specialised t l.variable l.action l.twin l.value (drop l.other-index l.list)) after o → Wrote l.initial.out 0 (specialised t l.variable l.action l.twin (t.init l.variable) l.list) after o)
+    let s = l.step in record {
+      same_reference : l.out.buffer.ghost_name ≡ l.initial.out.buffer.ghost_name;
+      on : (after : List ℕ) (o : Option ℕ) → Wrote l.out.buffer.now l.out.written (specialised t s.variable s.action s.twin l.value (drop l.other-index l.list)) after o → Wrote l.initial.out.buffer.now l.initial.out.written (specialised t s.variable s.action s.twin (t.init s.variable) l.list) after o;
+    }

@@ -1,0 +1,32 @@
+// Rows in which a variable or an action is retired, or an action requires less.
+ghost use Rattle.std.specs.Prelude.{◌≡◌, ℕ, ◌<◌, Bool, not, ◌==◌};
+ghost use Rattle.reductions.specs.Applying.{precondition_dropped, every};
+ghost use Rattle.tables.specs.Tabled.{task_in, tabled, retired, at_prices};
+
+use super::Rows;
+
+impl Rows {
+    pub(crate) fn retire_variable(&mut self, variable: u8)
+        requires { variable < 32 }
+        ensures { tabled self.new ≡ retired (tabled self.old) every (λ w. not (w == variable)) }
+    {
+        self.variables[usize::from(variable)].live = None;
+    }
+
+    pub(crate) fn retire_action(&mut self, action: u16)
+        requires { action < 512 }
+        ensures { tabled self.new ≡ retired (tabled self.old) (λ a. not (a == action)) every }
+    {
+        self.actions[usize::from(action)] = None;
+    }
+
+    // The action requires no value of the variable any more.
+    pub(crate) fn drop_precondition(&mut self, action: u16, variable: u8)
+        requires { (action < 512) × (variable < 32) }
+        ensures { tabled self.new ≡ at_prices (tabled self.old) (precondition_dropped (task_in self.old) variable action) }
+    {
+        if let Some(row) = &mut self.actions[usize::from(action)] {
+            row.preconditions[usize::from(variable)] = None;
+        }
+    }
+}
