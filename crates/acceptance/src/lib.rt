@@ -3,7 +3,6 @@
 
 ghost use Rattle.std.specs.Prelude.{◌≡◌, if◌then◌else◌, Ok, Err};
 ghost use Rattle.tasks.specs.Task.{priced};
-ghost use Rattle.tasks.specs.declared.refusal.Cause.TheVariants.{NotLive};
 ghost use Rattle.reductions.specs.Steps.{variable as variable_step, action as action_step, abstract as abstract_step};
 ghost use Rattle.reductions.specs.Acceptance.{refusal_of, answer_of};
 ghost use Rattle.reductions.specs.Named.{merge_of, generalise_of, step_of};
@@ -14,32 +13,22 @@ use tasks::{Cause, Priced, Refusal, Task};
 mod counting;
 mod known;
 mod lists;
+mod marks;
 mod moves;
 mod reaching;
 mod twins;
 
 use counting::live_values;
-use lists::{first_unlisted, stands_in_for};
+use lists::StandIn;
 use moves::is_move;
 use reaching::is_connected;
 use twins::are_twins;
 
-// Refused at the position of a number, in the order in which the step is written, unless it is live.
-fn must_be_live(live: bool, position: usize) -> Result<(), Refusal>
-    ensures { result ≡ (if live then Ok tt else Err (record { cause = NotLive; place = position })) }
+// Refused for the cause, at the place, unless the condition holds.
+fn refuse_unless(holds: bool, cause: Cause, place: usize) -> Result<(), Refusal>
+    ensures { result ≡ (if holds then Ok tt else Err (record { cause = cause; place = place })) }
 {
-    if live {
-        Ok(())
-    } else {
-        Err(Cause::NotLive.at(position))
-    }
-}
-
-// Refused for a cause unless the other conditions hold.
-fn must_fit(fits: bool, cause: Cause) -> Result<(), Refusal>
-    ensures { result ≡ (if fits then Ok tt else Err (record { cause = cause; place = 0 })) }
-{
-    if fits { Ok(()) } else { Err(cause.at(0)) }
+    if holds { Ok(()) } else { Err(cause.at(place)) }
 }
 
 fn accept_merge<T: Priced>(task: &T, step: Merge) -> Result<(), Refusal>
@@ -52,52 +41,51 @@ fn accept_merge<T: Priced>(task: &T, step: Merge) -> Result<(), Refusal>
         forward,
         back,
     } = step;
-    must_be_live(task.variable_live(variable), 0)?;
-    must_be_live(task.value_live(variable, from), 1)?;
-    must_be_live(task.value_live(variable, to), 2)?;
-    must_be_live(task.action_live(forward), 3)?;
-    must_be_live(task.action_live(back), 4)?;
+    refuse_unless(task.variable_live(variable), Cause::NotLive, 0)?;
+    refuse_unless(task.value_live(variable, from), Cause::NotLive, 1)?;
+    refuse_unless(task.value_live(variable, to), Cause::NotLive, 2)?;
+    refuse_unless(task.action_live(forward), Cause::NotLive, 3)?;
+    refuse_unless(task.action_live(back), Cause::NotLive, 4)?;
     let fits = from != to
         && is_move(task, forward, variable, from, to)
         && is_move(task, back, variable, to, from);
-    must_fit(fits, Cause::MergeUnfit)
+    refuse_unless(fits, Cause::MergeUnfit, 0)
 }
 
 fn accept_generalise<T: Priced>(task: &T, step: Generalise) -> Result<(), Refusal>
     ensures { result ≡ answer_of (refusal_of (priced (T.Task.meant task.now) (T.Priced.tariff task.now)) (generalise_of step)) }
 {
-    must_be_live(task.variable_live(step.variable), 0)?;
-    must_be_live(task.action_live(step.action), 1)?;
-    must_be_live(task.action_live(step.twin), 2)?;
+    refuse_unless(task.variable_live(step.variable), Cause::NotLive, 0)?;
+    refuse_unless(task.action_live(step.action), Cause::NotLive, 1)?;
+    refuse_unless(task.action_live(step.twin), Cause::NotLive, 2)?;
     let fits = live_values(task, step.variable) == 2 && are_twins(task, step);
-    must_fit(fits, Cause::GeneraliseUnfit)
+    refuse_unless(fits, Cause::GeneraliseUnfit, 0)
 }
 
 fn accept_variable<T: Priced>(task: &T, variable: u8) -> Result<(), Refusal>
     ensures { result ≡ answer_of (refusal_of (priced (T.Task.meant task.now) (T.Priced.tariff task.now)) (variable_step variable)) }
 {
-    must_be_live(task.variable_live(variable), 0)?;
-    must_fit(live_values(task, variable) == 1, Cause::VariableUnfit)
+    refuse_unless(task.variable_live(variable), Cause::NotLive, 0)?;
+    refuse_unless(live_values(task, variable) == 1, Cause::VariableUnfit, 0)
 }
 
 fn accept_action<T: Priced>(task: &T, action: u16, list: &[u16]) -> Result<(), Refusal>
     ensures { result ≡ answer_of (refusal_of (priced (T.Task.meant task.now) (T.Priced.tariff task.now)) (action_step action list.now)) }
 {
-    must_be_live(task.action_live(action), 0)?;
-    if list.len() > 8 {
-        return Err(Cause::ListUnfit.at(8));
-    }
-    if let Some(place) = first_unlisted(task, action, list) {
+    refuse_unless(task.action_live(action), Cause::NotLive, 0)?;
+    refuse_unless(list.len() <= 8, Cause::ListUnfit, 8)?;
+    let stand_in = StandIn { task, action, list };
+    if let Some(place) = stand_in.first_unlisted() {
         return Err(Cause::ListUnfit.at(place));
     }
-    must_fit(stands_in_for(task, list, action), Cause::ActionUnfit)
+    refuse_unless(stand_in.stands_in(), Cause::ActionUnfit, 0)
 }
 
 fn accept_abstract<T: Priced>(task: &T, variable: u8) -> Result<(), Refusal>
     ensures { result ≡ answer_of (refusal_of (priced (T.Task.meant task.now) (T.Priced.tariff task.now)) (abstract_step variable)) }
 {
-    must_be_live(task.variable_live(variable), 0)?;
-    must_fit(is_connected(task, variable), Cause::AbstractUnfit)
+    refuse_unless(task.variable_live(variable), Cause::NotLive, 0)?;
+    refuse_unless(is_connected(task, variable), Cause::AbstractUnfit, 0)
 }
 
 // Refused where a number that the step names is not live, at its position; then for its list; then for its conditions.

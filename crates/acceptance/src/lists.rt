@@ -8,66 +8,78 @@ ghost use Rattle.acceptance.specs.Knowns.{knows, known_in};
 use crate::known::Known;
 use tasks::Task;
 
-// Whether the other may stand in the list of the action: it is live and another.
-fn listable<T: Task>(task: &T, action: u16, other: u16) -> bool
-    ensures { result ≡ may_stand (T.meant task.now) action other }
-{
-    task.action_live(other) && other != action
+// A list that is to stand in for an action of the task.
+#[derive(Drop)]
+pub struct StandIn<'a, T> {
+    pub task: &'a T,
+    pub action: u16,
+    pub list: &'a [u16],
 }
 
-// The first action that may not stand in the list.
-pub fn first_unlisted<T: Task>(task: &T, action: u16, list: &[u16]) -> Option<usize>
-    ensures { result ≡ first_unlisted (T.meant task.now) action 0 list.now }
-{
-    list.iter()
-        .position(|other| !listable(task, action, *other))
-}
-
-// What is known after the list, or nothing where one of its actions needs more than is known.
-fn known_after<T: Task>(task: &T, action: u16, list: &[u16]) -> Option<Known>
-    ensures { known_in result ≡ known_after (T.meant task.now) ((T.meant task.now).pre action) list.now }
-{
-    let mut known = Known::required_by(task, action);
-    for other in list {
-        if !known.allows(task, *other) {
-            return None;
-        }
-        known.learn(task, *other);
+impl<T: Task> StandIn<'_, T> {
+    // Whether the other may stand in the list: it is live, and not the action.
+    fn may_list(&self, other: u16) -> bool
+        ensures { result ≡ may_stand (T.meant self.now.task.now) self.now.action other }
+    {
+        self.task.action_live(other) && other != self.action
     }
-    Some(known)
-}
 
-// Whether an action of the list sets the variable.
-fn is_set_by<T: Task>(task: &T, list: &[u16], variable: u8) -> bool
-    ensures { result ≡ is_set_by (T.meant task.now) list.now variable }
-{
-    list.iter()
-        .any(|other| task.effect(*other, variable).is_some())
-}
+    // The first action that may not stand in the list.
+    pub fn first_unlisted(&self) -> Option<usize>
+        ensures { result ≡ first_unlisted (T.meant self.now.task.now) self.now.action 0 self.now.list.now }
+    {
+        self.list.iter().position(|other| !self.may_list(*other))
+    }
 
-// Whether the variable ends as after the action: with its effect, or as the action required it if only the list sets it.
-fn ends_alike<T: Task>(task: &T, action: u16, list: &[u16], known: &Known, variable: u8) -> bool
-    ensures { result ≡ stands_in ((T.meant task.now).eff action variable) ((T.meant task.now).pre action variable) (is_set_by (T.meant task.now) list.now variable) (knows known.now variable) }
-{
-    match task.effect(action, variable) {
-        Some(value) => known.has(variable, value),
-        None => {
-            let before = task.precondition(action, variable);
-            !is_set_by(task, list, variable)
-                || (before.is_some() && before == known.value(variable))
+    // What is known after the list, or nothing where one of its actions needs more than is known.
+    fn known_after(&self) -> Option<Known>
+        ensures { known_in result ≡ known_after (T.meant self.now.task.now) ((T.meant self.now.task.now).pre self.now.action) self.now.list.now }
+    {
+        let mut known = Known::required_by(self.task, self.action);
+        for other in self.list {
+            if !known.allows(self.task, *other) {
+                return None;
+            }
+            known.learn(self.task, *other);
+        }
+        Some(known)
+    }
+
+    // Whether an action of the list sets the variable.
+    fn sets(&self, variable: u8) -> bool
+        ensures { result ≡ is_set_by (T.meant self.now.task.now) self.now.list.now variable }
+    {
+        self.list
+            .iter()
+            .any(|other| self.task.effect(*other, variable).is_some())
+    }
+
+    // Whether the variable ends as after the action: with its effect, or as the action required it if only the list sets it.
+    fn ends_alike(&self, known: &Known, variable: u8) -> bool
+        ensures { result ≡ stands_in ((T.meant self.now.task.now).eff self.now.action variable) ((T.meant self.now.task.now).pre self.now.action variable) (is_set_by (T.meant self.now.task.now) self.now.list.now variable) (knows known.now variable) }
+    {
+        match self.task.effect(self.action, variable) {
+            Some(value) => known.has(variable, value),
+            None => {
+                let before = self.task.precondition(self.action, variable);
+                !self.sets(variable) || (before.is_some() && before == known.value(variable))
+            }
         }
     }
-}
 
-fn all_end_alike<T: Task>(task: &T, action: u16, list: &[u16], known: &Known) -> bool
-    ensures { result ≡ all_below (T.meant task.now).vars (λ w. stands_in ((T.meant task.now).eff action w) ((T.meant task.now).pre action w) (is_set_by (T.meant task.now) list.now w) (knows known.now w)) }
-{
-    (0..task.variables()).all(|w| ends_alike(task, action, list, known, w))
-}
+    fn all_end_alike(&self, known: &Known) -> bool
+        ensures { result ≡ all_below (T.meant self.now.task.now).vars (λ w. stands_in ((T.meant self.now.task.now).eff self.now.action w) ((T.meant self.now.task.now).pre self.now.action w) (is_set_by (T.meant self.now.task.now) self.now.list.now w) (knows known.now w)) }
+    {
+        (0..self.task.variables()).all(|w| self.ends_alike(known, w))
+    }
 
-// Whether the list stands in for the action.
-pub fn stands_in_for<T: Task>(task: &T, list: &[u16], action: u16) -> bool
-    ensures { result ≡ has_effect_of (T.meant task.now) action list.now (known_after (T.meant task.now) ((T.meant task.now).pre action) list.now) }
-{
-    known_after(task, action, list).is_some_and(|known| all_end_alike(task, action, list, &known))
+    // Whether the list stands in for the action. A closure that takes what is known and borrows `self` is given no contract, hence the `else`.
+    pub fn stands_in(&self) -> bool
+        ensures { result ≡ has_effect_of (T.meant self.now.task.now) self.now.action self.now.list.now (known_after (T.meant self.now.task.now) ((T.meant self.now.task.now).pre self.now.action) self.now.list.now) }
+    {
+        let Some(known) = self.known_after() else {
+            return false;
+        };
+        self.all_end_alike(&known)
+    }
 }

@@ -1,8 +1,8 @@
 -- The sides of a floor, its cells, and which of them are open.
-use Rattle.std.specs.Prelude.{◌≡◌, ℕ, suc, ◌<◌, ◌≤◌, true, Bool, cond, not, ◌&&◌, List, ◌∷◌, length, Some, None, nat_le, nat_lt, slice_index}
-use Rattle.std.proofs.Common.{sym, arith}
-use Rattle.std.proofs.lemmas.Nat.{mul-le}
-use Rattle.std.proofs.lemmas.Bool.{and_parts, leb-true, ltb-true, ltb-false, not-true, not-false, cond_both}
+use Rattle.std.specs.Prelude.{◌≡◌, ℕ, suc, ◌/◌, ◌%◌, ◌^◌, ◌<◌, ◌≤◌, ◌==◌, bit_and, nat_eq, true, Bool, cond, not, ◌&&◌, List, ◌∷◌, length, Some, None, nat_le, nat_lt, slice_index}
+use Rattle.std.proofs.Common.{sym, ap, ◌∙◌, arith}
+use Rattle.std.proofs.lemmas.Nat.{and_mask, mul-le}
+use Rattle.std.proofs.lemmas.Bool.{and_parts, leb-true, ltb-true, lt-ltb, ltb-false, not-true, not-false, cond_both}
 use Rattle.std.proofs.lemmas.List.Sums.{fails_before_first, passes_at_first}
 use Rattle.std.specs.List.{position_or_len}
 use Rattle.tasks.specs.Bounds.{first_failing}
@@ -27,6 +27,11 @@ sides_known p h =
     let t = leb-true 1 p.high b.1 in
     let t8 = leb-true p.high 8 a.1 in
     record { some_wide = w; few_wide = w8; some_high = t; few_high = t8; some_cells = mul-le 1 1 p.wide p.high w t; few_cells = mul-le p.wide p.high 8 8 w8 t8 }
+
+-- a cell of the floor is open if its bit, as the code tests it, is 0
+pub open_by_bit : (p : Pool) (c : ℕ) → c < cell_count p → (bit_and (p.blocked / 2 ^ c) 1 == 0) ≡ open_cell p c
+open_by_bit p c h =
+    ap (λ m. nat_eq m 0) (and_mask (p.blocked / 2 ^ c) 1) ∙ sym (ap (λ b. b && p.blocked / 2 ^ c % 2 == 0) (lt-ltb c (cell_count p) h))
 
 pub open_within : (p : Pool) (c : ℕ) → open_cell p c ≡ true → c < cell_count p
 open_within p c h = ltb-true c (cell_count p) (and_parts (nat_lt c (cell_count p)) _ h).0

@@ -34,7 +34,7 @@ fn check_header(bytes: &[u8]) -> Result<Header, Refusal>
     Ok(header)
 }
 
-// One variable.
+// The record of a variable: whole, without a spare bit, its values in range.
 fn check_variable(bytes: &[u8], variable: u8) -> Result<(), Refusal>
     ensures { result ≡ unless (variable_refusal bytes.now variable) tt }
 {
@@ -52,7 +52,7 @@ fn check_variable(bytes: &[u8], variable: u8) -> Result<(), Refusal>
     Ok(())
 }
 
-// The variables.
+// The records of the variables, the lowest that is wrong first.
 fn check_variables(bytes: &[u8], count: u8) -> Result<(), Refusal>
     ensures { result ≡ unless (first_some count (variable_refusal bytes.now)) tt }
 {
@@ -148,8 +148,8 @@ impl Front<'_> {
         Ok(effects + 2 * usize::from(action.effects()))
     }
 
-    // The actions, one behind the other, and that nothing is left over. Answers where their records begin: a plain array, which
-    // the header counts, as the project asks.
+    // The actions, one behind the other, and that nothing is left over. Answers where their records begin, in a plain
+    // array, a form that is asked for (docs/DECISIONS.md).
     fn check_actions(&self) -> Result<[usize; 512], Refusal>
         ensures { MatchResult result (λ offsets. (refusal self.now.bytes.now ≡ None) × Placed self.now.bytes.now offsets) (λ e. refusal self.now.bytes.now ≡ Some e) }
     {

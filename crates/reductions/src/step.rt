@@ -1,4 +1,4 @@
-// The five steps that reduce a task.
+// A step as it is written: its numbers, and for an action step a list.
 
 // `forward` leads the variable from `from` to `to` and `back` leads it back: every mention of `from` becomes one of `to`.
 #[derive(Clone, Copy)]

@@ -1,4 +1,4 @@
-// The answers of a task, row by row. Of what is retired nothing is kept, so that to retire is one write.
+// The answers of a task, row by row. Of what is retired nothing is kept but the size of a variable, so that to retire is one write.
 ghost use Rattle.std.specs.Prelude.{◌≡◌};
 
 mod changing;

@@ -28,6 +28,10 @@ module _ {S : Type 0} (m : CostAlgebra S) (laws : CostLaws m) where
   total_append p [] ys = sym (laws.neutral (total m p ys))
   total_append p (x ∷ xs) ys = ap (m.join (m.weight (p.price x))) (total_append p xs ys) ∙ sym (laws.assoc (m.weight (p.price x)) (total m p xs) (total m p ys))
 
+  -- one action more at the end
+  pub total_push : (p : Priced) (xs : List ℕ) (a : ℕ) → total m p (xs ++ (a ∷ [])) ≡ m.join (total m p xs) (m.weight (p.price a))
+  total_push p xs a = total_append p xs (a ∷ []) ∙ ap (m.join (total m p xs)) (join_nothing (m.weight (p.price a)))
+
   -- joined from the first on, with what was joined before
   total_from : (p : Priced) (x : S) (xs : List ℕ) → fold (λ sum a. m.join sum (m.weight (p.price a))) x xs ≡ m.join x (total m p xs)
   total_from p x [] = sym (join_nothing x)

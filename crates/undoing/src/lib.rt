@@ -76,11 +76,8 @@ pub fn undo<T: Priced, M: Measure>(
     buffer.fill(0);
     let undone = write_undone::<T, M>(task, step, list, buffer, table);
     clear::<M>(table);
-    match undone {
-        Ok(undone) => Ok(undone),
-        Err(Full) => {
-            buffer.fill(0);
-            Err(Cause::BufferShort.at(0))
-        }
+    if undone.is_err() {
+        buffer.fill(0);
     }
+    undone.map_err(|_| Cause::BufferShort.at(0))
 }

@@ -12,8 +12,7 @@ use tasks::Task;
 fn specialise_one<T: Task>(task: &T, step: &Generalise, value: u8, other: u16) -> u16
     ensures { result ≡ (if nat_eq other step.now.action && has_value value ((T.meant task.now).pre step.now.twin step.now.variable) then step.now.twin else other) }
 {
-    let required = task.precondition(step.twin, step.variable);
-    if other == step.action && required.is_some_and(|required| value == required) {
+    if other == step.action && task.precondition(step.twin, step.variable) == Some(value) {
         step.twin
     } else {
         other

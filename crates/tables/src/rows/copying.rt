@@ -44,7 +44,7 @@ impl Action {
     }
 }
 
-// The rows of the actions: a plain array, as the project asks, in which those that are not live are nothing.
+// The rows of the actions: a plain array, a form that is asked for (docs/DECISIONS.md), in which those that are not live are nothing.
 fn copy_actions<T: Priced>(task: &T) -> [Option<Action>; 512]
     ensures { (a : ℕ) → ActionCopied (priced (T.Task.meant task.now) (T.Priced.tariff task.now)) a (slice_index_or result a None) }
 {

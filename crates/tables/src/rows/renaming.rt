@@ -57,7 +57,7 @@ impl Renaming {
     }
 
     // The row of the variable, which is live.
-    fn variable(self, old: Variable) -> Variable
+    fn variable_row(self, old: Variable) -> Variable
         requires { is_some old.live ≡ true }
         ensures { VariableRenamed true self.from self.to old result }
     {
@@ -67,7 +67,7 @@ impl Renaming {
         }
     }
 
-    fn action(self, old: &Option<Action>) -> Option<Action>
+    fn action_row(self, old: &Option<Action>) -> Option<Action>
         ensures { ActionRenamed self.variable self.from self.to old.now result }
     {
         let old = old.as_ref()?;
@@ -78,14 +78,14 @@ impl Renaming {
         })
     }
 
-    fn actions(self, old: &[Option<Action>; 512]) -> [Option<Action>; 512]
+    fn action_rows(self, old: &[Option<Action>; 512]) -> [Option<Action>; 512]
         ensures { (a : ℕ) → ActionRenamed self.variable self.from self.to (slice_index_or old.now a None) (slice_index_or result a None) }
     {
         array::from_fn(
             |a|
                 requires { a < 512 }
                 ensures { ActionRenamed self.variable self.from self.to (slice_index_or old.entry.now a None) result }
-            { self.action(&old[a]) },
+            { self.action_row(&old[a]) },
         )
     }
 }
@@ -97,7 +97,7 @@ impl Rows {
         ensures { tabled self.new ≡ at_prices (tabled self.old) (value_renamed (task_in self.old) renaming.variable renaming.from renaming.to) }
     {
         let v = usize::from(renaming.variable);
-        self.variables[v] = renaming.variable(self.variables[v]);
-        self.actions = renaming.actions(&self.actions);
+        self.variables[v] = renaming.variable_row(self.variables[v]);
+        self.actions = renaming.action_rows(&self.actions);
     }
 }

@@ -63,7 +63,7 @@ impl Task for Table {
     }
 
     fn precondition(&self, action: u16, variable: u8) -> Option<u8> {
-        let _live = self.domain(variable)?;
+        self.domain(variable)?;
         *self
             .action(action)?
             .preconditions
@@ -71,7 +71,7 @@ impl Task for Table {
     }
 
     fn effect(&self, action: u16, variable: u8) -> Option<u8> {
-        let _live = self.domain(variable)?;
+        self.domain(variable)?;
         *self.action(action)?.effects.get(usize::from(variable))?
     }
 

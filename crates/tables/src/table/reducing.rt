@@ -16,27 +16,29 @@ use reductions::{Generalise, Merge, Step};
 use std::array;
 use tasks::{Cause, Refusal};
 
-// Two values of a variable made one.
-fn merge(rows: &mut Rows, step: Merge)
-    requires { accepted (tabled rows.old) (merge_of step) ≡ true }
-    ensures { tabled rows.new ≡ applied (tabled rows.old) (merge_of step) }
-{
-    rows.rename(Renaming {
-        variable: step.variable,
-        from: step.from,
-        to: step.to,
-    });
-    rows.retire_action(step.forward);
-    rows.retire_action(step.back);
-}
+impl Rows {
+    // Two values of a variable made one.
+    fn merge(&mut self, step: Merge)
+        requires { accepted (tabled self.old) (merge_of step) ≡ true }
+        ensures { tabled self.new ≡ applied (tabled self.old) (merge_of step) }
+    {
+        self.rename(Renaming {
+            variable: step.variable,
+            from: step.from,
+            to: step.to,
+        });
+        self.retire_action(step.forward);
+        self.retire_action(step.back);
+    }
 
-// The first action comes to stand for its twin too.
-fn generalise(rows: &mut Rows, step: Generalise)
-    requires { accepted (tabled rows.old) (generalise_of step) ≡ true }
-    ensures { tabled rows.new ≡ applied (tabled rows.old) (generalise_of step) }
-{
-    rows.drop_precondition(step.action, step.variable);
-    rows.retire_action(step.twin);
+    // The first action comes to stand for its twin too.
+    fn generalise(&mut self, step: Generalise)
+        requires { accepted (tabled self.old) (generalise_of step) ≡ true }
+        ensures { tabled self.new ≡ applied (tabled self.old) (generalise_of step) }
+    {
+        self.drop_precondition(step.action, step.variable);
+        self.retire_action(step.twin);
+    }
 }
 
 impl Table {
@@ -65,8 +67,8 @@ impl Table {
     {
         let mut rows = self.rows;
         match *step {
-            Step::Merge(step) => merge(&mut rows, step),
-            Step::Generalise(step) => generalise(&mut rows, step),
+            Step::Merge(step) => rows.merge(step),
+            Step::Generalise(step) => rows.generalise(step),
             Step::Variable { variable } => rows.retire_variable(variable),
             Step::Action { action, .. } => rows.retire_action(action),
             Step::Abstract { variable } => {

@@ -3,7 +3,7 @@ use borrow.Author.Tests.{tests}
 use Rattle.tasks.proofs.Counted.{each_from_fn}
 use Rattle.tables.specs.Renamed.{ActionRenamed}
 use Rattle.tables.proofs.Renaming.{every_renamed}
-use Rattle.tables.proofs.rows.renaming.Renaming.actions.Goals as goal
+use Rattle.tables.proofs.rows.renaming.Renaming.action_rows.Goals as goal
 
 pub returns : goal.returns
 returns c =

@@ -3,7 +3,7 @@ use Rattle.tasks.specs.Task.{Priced}
 use Rattle.reductions.specs.Applying.{every}
 use Rattle.tables.specs.Tabled.{tabled, retired}
 use Rattle.tables.proofs.Retiring.{both_retired}
-use Rattle.tables.proofs.table.reducing.merge.Goals as goal
+use Rattle.tables.proofs.rows.Rows.merge.Goals as goal
 
 pub returns : goal.returns
 returns c =
