@@ -10,12 +10,13 @@ use tasks::Cause;
 pub fn read_plan(heap: Global, bytes: &[u8]) -> Result<Vec<u16>, Failure>
     ensures { ComesTo actions_in result (plan_read bytes.now) }
 {
-    if bytes.len() % 2 != 0 || bytes.len() > 32768 {
-        return Err(Failure::Refused(Cause::PlanFile.at(0)));
+    let (actions, rest) = bytes.as_chunks::<2>();
+    if !rest.is_empty() || bytes.len() > 32768 {
+        return Err(Cause::PlanFile.at(0).into());
     }
     let mut plan = Vec::new(heap);
-    for i in 0..bytes.len() / 2 {
-        plan.push(u16::from_be_bytes([bytes[2 * i], bytes[2 * i + 1]]))?;
+    for action in actions {
+        plan.push(u16::from_be_bytes(*action))?;
     }
     Ok(plan)
 }

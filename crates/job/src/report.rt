@@ -14,11 +14,10 @@ pub struct Report {
 impl fmt::Display for Report {
     ghost output = { λ r. Some (report_text r.plan.items r.total) };
 
+    #[tactic(auto, using(crate::proofs::Lines::written_more, crate::proofs::Lines::all_written))]
     fn fmt<W: fmt::Write>(&self, f: &mut fmt::Formatter<W>) -> fmt::Result {
-        let length = self.plan.len();
-        let total = self.total;
-        write!(f, "steps 0\nplan {length} total {total}")?;
-        for action in self.plan.iter() {
+        write!(f, "steps 0\nplan {} total {}", self.plan.len(), self.total)?;
+        for action in &self.plan {
             write!(f, "\n{action}")?;
         }
         Ok(())

@@ -1,7 +1,7 @@
 // Reads task.bin and top.plan in its folder, and prints what the job makes of them.
 #![tactic(auto)]
 
-use anyhow::anyhow;
+use anyhow::bail;
 use job::Failure;
 use std::fs;
 use std::io::ErrorKind;
@@ -15,16 +15,13 @@ fn read_or_empty(rt: &HostRuntime, path: &str) -> anyhow::Result<Vec<u8>> {
     }
 }
 
-fn run(rt: &HostRuntime) -> anyhow::Result<()> {
-    let task = read_or_empty(rt, "task.bin")?;
-    let plan = read_or_empty(rt, "top.plan")?;
-    match job::run(rt.alloc(), task, &plan) {
-        Ok(report) => Ok(rt.println(&report)?),
-        Err(Failure::Refused(refusal)) => Ok(rt.println(refusal)?),
-        Err(Failure::NoMemory) => Err(anyhow!("out of memory")),
-    }
-}
-
 fn main(rt: HostRuntime) -> anyhow::Result<()> {
-    run(&rt)
+    let task = read_or_empty(&rt, "task.bin")?;
+    let plan = read_or_empty(&rt, "top.plan")?;
+    match job::run(rt.alloc(), task, &plan) {
+        Ok(report) => println!(rt; "{report}")?,
+        Err(Failure::Refused(refusal)) => println!(rt; "{refusal}")?,
+        Err(Failure::NoMemory) => bail!("out of memory"),
+    }
+    Ok(())
 }
