@@ -92,6 +92,7 @@ fn accept_abstract<T: Priced>(task: &T, variable: u8) -> Result<(), Refusal>
 pub fn accept<T: Priced>(task: &T, step: &Step) -> Result<(), Refusal>
     ensures { result ≡ answer_of (refusal_of (priced (T.Task.meant task.now) (T.Priced.tariff task.now)) (step_of step.now)) }
 {
+    // a step is plain data, of which a table is to be kept: so its kind is matched
     match *step {
         Step::Merge(step) => accept_merge(task, step),
         Step::Generalise(step) => accept_generalise(task, step),
@@ -101,7 +102,7 @@ pub fn accept<T: Priced>(task: &T, step: &Step) -> Result<(), Refusal>
     }
 }
 
-// Why the step is refused, if it is.
+// Why the step is refused, if it is: what `accept` answers, for those who ask and do not refuse.
 pub fn refusal_of<T: Priced>(task: &T, step: &Step) -> Option<Refusal>
     ensures { result ≡ refusal_of (priced (T.Task.meant task.now) (T.Priced.tariff task.now)) (step_of step.now) }
 {

@@ -18,7 +18,7 @@ fn agree_except<T: Task>(task: &T, variable: u8, action: u16, twin: u16) -> bool
     })
 }
 
-// Whether both are there and differ.
+// Whether both are there and differ, which `!=` alone does not say.
 fn both_differ(x: Option<u8>, y: Option<u8>) -> bool
     ensures { result ≡ both_differ x y }
 {

@@ -18,7 +18,8 @@ use edges::gather;
 pub use path::Path;
 use search::Search;
 
-// Searches in the totals that it is lent, and leaves them as they then are.
+// Searches in the totals that it is lent, and leaves them as they then are. A slice, as the caller lends it: with an array of 64
+// in the search its goals of length stay open.
 fn find<T: Priced, M: Measure>(
     task: &T,
     variable: u8,

@@ -11,6 +11,7 @@ pub enum Failure {
     NoMemory,
 }
 
+// By hand, both: contracts speak of what they give, and a derived one has no contract.
 impl From<Refusal> for Failure {
     ghost from_gives = { λ e r. r ≡ RefusedBy e };
 

@@ -52,7 +52,7 @@ fn check_variable(bytes: &[u8], variable: u8) -> Result<(), Refusal>
     Ok(())
 }
 
-// The records of the variables, the lowest that is wrong first.
+// The records of the variables, which the header counts, the lowest that is wrong first.
 fn check_variables(bytes: &[u8], count: u8) -> Result<(), Refusal>
     ensures { result ≡ unless (first_some count (variable_refusal bytes.now)) tt }
 {
@@ -119,7 +119,7 @@ impl Front<'_> {
         Ok(())
     }
 
-    // So many facts from a place on.
+    // So many facts from a place on, as their action counts them.
     fn check_facts(&self, list: usize, count: u8) -> Result<(), Refusal>
         requires { list < 2 ^ 32 }
         ensures { result ≡ unless (facts_refusal self.now.bytes.now list count) tt }

@@ -10,7 +10,8 @@ use crate::refusal::{Cause, Refusal};
 use crate::state::State;
 use crate::task::{Priced, Task};
 
-// Runs each action of the list in turn: the state at the end, or the index of the first that cannot run.
+// Runs each action of the list in turn: the state at the end, or the index of the first that cannot run. A `for` with
+// index, a form that is asked for.
 fn run_all<T: Task>(task: &T, list: &[u16]) -> Result<State, usize>
     ensures { answered result ≡ ran_from (T.meant task.now) (T.meant task.now).init 0 list.now }
 {

@@ -50,7 +50,7 @@ impl State {
         task.action_live(action) && self.holds(task, action)
     }
 
-    // Sets the effects of the action.
+    // Sets the effects of the action, variable by variable: a state that is made anew would ask for all 32.
     pub fn run<T: Task>(&mut self, task: &T, action: u16)
         ensures { held self.new ≡ after (T.meant task.now) (held self.old) action }
     {

@@ -24,7 +24,8 @@ use specialising::specialise;
 pub use undone::Undone;
 use writing::{Full, Writer};
 
-// Writes the list that is due from the front of the buffer, or answers that it does not fit.
+// Writes the list that is due from the front of the buffer, or answers that it does not fit. An array of 64 totals
+// would say their number by its type, but nothing shows that an array of a generic total fits in memory.
 fn write_undone<T: Priced, M: Measure>(
     task: &T,
     step: &Step,
@@ -36,6 +37,7 @@ fn write_undone<T: Priced, M: Measure>(
     ensures { Undid M.Measure.scale (priced (T.Task.meant task.now) (T.Priced.tariff task.now)) (undone_list M.Measure.scale (priced (T.Task.meant task.now) (T.Priced.tariff task.now)) (step_of step.now) list.now) (inserted_list M.Measure.scale (priced (T.Task.meant task.now) (T.Priced.tariff task.now)) (step_of step.now) list.now) buffer.old buffer.new result }
 {
     let mut out = Writer::new(buffer);
+    // a step is plain data, of which a table is to be kept: so its kind is matched
     let inserted = match *step {
         Step::Merge(mut merge) => refine::<T, M, Merge>(task, &mut merge, list, &mut out)?,
         Step::Abstract { variable } => {

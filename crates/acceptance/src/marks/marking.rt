@@ -38,7 +38,7 @@ impl Marks {
             .unwrap_or(false)
     }
 
-    // Marks a value, if it is one of the 64.
+    // Marks a value, if it is one of the 64. No `get_mut`: its contract says nothing of what is written back.
     fn mark(&mut self, value: u8)
         ensures { self.new.marked ≡ slice_set self.old.marked value true }
     {
@@ -54,7 +54,7 @@ impl Marks {
         edge.from.is_none_or(|from| self.is_marked(from)) && !self.is_marked(edge.to)
     }
 
-    // One round over the edges. Answers whether it marked a value.
+    // One round over the edges. Answers whether it marked a value; a chain that marks as it goes would tell a proof nothing.
     fn mark_targets(&mut self, edges: &[Edge]) -> bool
         ensures { (self.new.marked ≡ mark_edges edges.now self.old.marked) × ((result ≡ false → self.new.marked ≡ self.old.marked)) }
     {
@@ -68,7 +68,7 @@ impl Marks {
         more
     }
 
-    // So many rounds, or fewer when one marks nothing.
+    // So many rounds, as the definition counts them, or fewer when one marks nothing.
     fn mark_rounds(&mut self, edges: &[Edge], rounds: u8)
         ensures { self.new.marked ≡ mark_rounds edges.now rounds self.old.marked }
     {

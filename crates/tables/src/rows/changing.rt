@@ -5,6 +5,7 @@ ghost use Rattle.tables.specs.Tabled.{task_in, tabled, retired, at_prices};
 
 use super::Rows;
 
+// The numbers are in range: `get_mut`, which would ask, says nothing of what is written back.
 impl Rows {
     pub(crate) fn retire_variable(&mut self, variable: u8)
         requires { variable < 32 }

@@ -66,6 +66,7 @@ impl Table {
         ensures { tabled result ≡ applied (tabled self.now.rows) (step_of step.now) }
     {
         let mut rows = self.rows;
+        // a step is plain data, of which a table is to be kept: so its kind is matched
         match *step {
             Step::Merge(step) => rows.merge(step),
             Step::Generalise(step) => rows.generalise(step),
