@@ -1,3 +1,4 @@
+pub mod LiveValues
 pub mod StandIns
 pub mod MarkingLoop
 pub mod GatheredMarks

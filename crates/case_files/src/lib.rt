@@ -1,11 +1,11 @@
 // What the programs that run case files share: the reading of cases, and the writing of lists.
 #![tactic(auto)]
 
+mod bytes;
 mod case;
 mod lists;
 mod question;
 mod running;
-mod subject;
 mod survey;
 #[cfg(test)]
 mod tests;

@@ -1,5 +1,5 @@
 // Lists as the case files write them: commas between the items, and `-` for none.
-ghost use Rattle.std.specs.Prelude.{◌≡◌, Ok, IfOk, map, string_bytes};
+ghost use Rattle.std.specs.Prelude.{◌≡◌, Ok, IfOk, string_bytes};
 ghost use Rattle.std.specs.List.{AllZip};
 ghost use Rattle.itertools.specs.Consumer.{ShownBy};
 ghost use Rattle.case_files.specs.Lists.{items_of, list_of};
@@ -21,26 +21,19 @@ pub fn list_text<T: Copy + Display>(heap: Global, items: &[T]) -> Result<String,
     items.iter().copied().join(heap, ",")
 }
 
-fn items(heap: Global, text: &str) -> Result<Vec<&str>, AllocError>
-    ensures { IfOk result (λ items. map (λ item. item.now) items.items ≡ items_of text.now) }
-{
-    if text == "-" {
-        return Ok(Vec::new(heap));
-    }
-    text.split(',').collect(heap)
-}
-
 // What the items of a list say, each read by itself.
-#[tactic(auto, using(crate::proofs::Reading::one_more))]
+#[tactic(auto, using(crate::proofs::Reading::push))]
 pub fn numbers<T: FromStr + Drop>(heap: Global, text: &str) -> anyhow::Result<Vec<T>>
 where
     T::Err: Error,
     ensures { IfOk result (λ numbers.
         AllZip (λ item number. T.from_str_gives item (Ok number)) (items_of text.now) numbers.items) }
 {
-    let items = items(heap, text)?;
     let mut numbers = Vec::new(heap);
-    for item in &items {
+    if text == "-" {
+        return Ok(numbers);
+    }
+    for item in text.split(',') {
         numbers.push(item.parse::<T>()?)?;
     }
     Ok(numbers)

@@ -1,7 +1,6 @@
 // A file of cases, one after another.
-use crate::case::holds;
+use crate::case::Cases;
 use crate::question::Question;
-use anyhow::Context;
 use std::fs::{self, Files};
 
 // Runs the cases of a file, and prints the first line of each that does not hold and how many hold. No contract can say
@@ -11,17 +10,12 @@ pub fn run_file<Q: Question, R: Files + AllocGlobal + Print>(
     path: &str,
 ) -> anyhow::Result<()> {
     let text = fs::read_to_string(rt, path)?;
-    let mut answers = Vec::new(rt.alloc());
-    for case in text.as_str().split_terminator("end\n") {
-        let (task, lines) = case.split_once('\n').context("a case without lines")?;
-        let held = holds::<Q>(rt.alloc(), task, lines)?;
-        if !held {
-            println!(rt; "{path}: does not hold: {task}")?;
+    let mut cases = Cases::<Q>::new(rt.alloc());
+    for line in text.as_str().lines() {
+        if let Some(failed) = cases.line(line)? {
+            println!(rt; "{path}: does not hold: {failed}")?;
         }
-        answers.push(held)?;
     }
-    let held = answers.iter().filter(|held| **held).count();
-    let all = answers.len();
-    println!(rt; "{path}: {held} of {all} hold")?;
+    println!(rt; "{path}: {} of {} hold", cases.held, cases.all)?;
     Ok(())
 }

@@ -2,12 +2,15 @@
 use anyhow::Context;
 use case_files::{Question, list_text};
 use detours::{Path, detour};
+use floors::{Floor, Survey};
+use packed::File;
 use std::alloc::{AllocError, Global};
-use std::fmt::Display;
+use std::fmt::{Display, Write};
 use std::str::FromStr;
-use tasks::{Charge, Depth, Priced};
+use tasks::{Charge, Depth, Priced, Refusal};
 
 // The value of a variable that a detour leads from, and the one that it leads to.
+#[derive(Drop)]
 struct Ends {
     variable: u8,
     from: u8,
@@ -43,18 +46,68 @@ fn path<S: Copy + Display>(
     format!(in heap; "{measure} {total} list {actions}\n")
 }
 
-// Asks for the detour between two values, in either measure: `from C to R of V`.
-pub struct Detours;
+// The detour in either measure.
+fn in_both_measures<T: Priced>(heap: Global, task: &T, ends: Ends) -> Result<String, AllocError> {
+    let Ends { variable, from, to } = ends;
+    let charge = detour::<T, Charge>(task, variable, from, to, &mut [0; 64]);
+    let depth = detour::<T, Depth>(task, variable, from, to, &mut [0; 64]);
+    let charge = path(heap, "charge", charge)?;
+    let depth = path(heap, "depth", depth)?;
+    format!(in heap; "{charge}{depth}")
+}
+
+// What a case is about.
+#[derive(Drop)]
+enum Subject {
+    File(File),
+    Floor(Floor),
+}
+
+// Answers the detour of the last task between two values, in either measure: `from C to R of V`. Of a task that is refused
+// nothing is answered.
+#[derive(Drop)]
+pub struct Detours {
+    subject: Option<Subject>,
+}
+
+impl Detours {
+    // The case is about nothing.
+    fn refuse(&mut self, refusal: Refusal, said: &mut String) -> Result<(), AllocError> {
+        self.subject = None;
+        writeln!(said, "{refusal}")
+    }
+}
 
 impl Question for Detours {
-    const WORD: Option<&'static str> = Some("from ");
+    const WORD: &'static str = "from ";
 
-    fn answer<T: Priced>(heap: Global, task: &T, words: &str) -> anyhow::Result<String> {
-        let Ends { variable, from, to } = words.parse()?;
-        let charge = detour::<T, Charge>(task, variable, from, to, &mut [0; 64]);
-        let depth = detour::<T, Depth>(task, variable, from, to, &mut [0; 64]);
-        let charge = path(heap, "charge", charge)?;
-        let depth = path(heap, "depth", depth)?;
-        Ok(format!(in heap; "{charge}{depth}")?)
+    fn new(_heap: Global) -> Detours {
+        Detours { subject: None }
+    }
+
+    fn file(&mut self, bytes: Vec<u8>, said: &mut String) -> anyhow::Result<()> {
+        match File::open(bytes) {
+            Ok(file) => self.subject = Some(Subject::File(file)),
+            Err(refusal) => self.refuse(refusal, said)?,
+        }
+        Ok(())
+    }
+
+    fn floor(&mut self, survey: Survey, said: &mut String) -> anyhow::Result<()> {
+        match Floor::new(survey) {
+            Ok(floor) => self.subject = Some(Subject::Floor(floor)),
+            Err(refusal) => self.refuse(refusal, said)?,
+        }
+        Ok(())
+    }
+
+    fn answer(&mut self, heap: Global, words: &str, said: &mut String) -> anyhow::Result<()> {
+        let ends: Ends = words.parse()?;
+        match &self.subject {
+            None => {}
+            Some(Subject::File(file)) => *said = in_both_measures(heap, file, ends)?,
+            Some(Subject::Floor(floor)) => *said = in_both_measures(heap, floor, ends)?,
+        }
+        Ok(())
     }
 }

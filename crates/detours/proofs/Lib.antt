@@ -13,9 +13,11 @@ pub mod Tracing
 pub mod Deciding
 pub mod GatheredSearch
 pub mod MarkedLabels
+pub mod Fuel
 pub mod GatherLoop
 pub mod LeastLoop
 pub mod RelaxLoop
 pub mod SettleLoop
 pub mod TraceLoop
+pub mod ClearLoop
 pub mod Filling

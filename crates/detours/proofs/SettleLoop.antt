@@ -74,6 +74,10 @@ module _ {S : Type 0} (m : CostAlgebra S) where
     pub found_inside : u < length es
     found_inside = sum_inside m es u there.1.0 there.1.1
 
+  -- so the marks and the totals have a place for it
+  pub found_within : (ks : List Mark) (xs : List S) (u : ℕ) → least_open m (labels ks xs) 0 None None ≡ Some u → u < length xs
+  found_within ks xs u found = omega (arith, found_inside (labels ks xs) u found, labels_short ks xs)
+
 module _ {S : Type 0} (m : CostAlgebra S) (edges : List Edge) where
   -- the labels when u is settled and its edges are tried
   abbrev turn : List (Label S) → ℕ → List (Label S)
@@ -118,7 +122,7 @@ module _ {S : Type 0} (m : CostAlgebra S) (edges : List Edge) where
 
   module _ (ks : List Mark) (xs : List S) (u : ℕ) (found : least_open m (labels ks xs) 0 None None ≡ Some u) (place : ℕ) (at : place ≡ u) (x : S) (k d : Mark) (mark_is : k ≡ settled_of (get_or ks place d)) (marked : u < length ks) where
     within : u < length xs
-    within = omega (arith, found_inside m (labels ks xs) u found, labels_short ks xs)
+    within = found_within m ks xs u found
 
     label_is : get_or (labels ks xs) u (unlabelled m) ≡ label_of (get_or ks u d) (get_or xs u x)
     label_is = labels_at ks xs u (unlabelled m) d x marked within

@@ -1,13 +1,13 @@
 -- The sides of a floor, its cells, and which of them are open.
-use Rattle.std.specs.Prelude.{◌≡◌, ℕ, suc, ◌/◌, ◌%◌, ◌^◌, ◌<◌, ◌≤◌, ◌==◌, bit_and, nat_eq, true, Bool, cond, not, ◌&&◌, List, ◌∷◌, length, Some, None, nat_le, nat_lt, slice_index}
-use Rattle.std.proofs.Common.{sym, ap, ◌∙◌, arith}
+use Rattle.std.specs.Prelude.{◌≡◌, ℕ, suc, ◌+◌, ◌/◌, ◌%◌, ◌^◌, ◌<◌, ◌≤◌, ◌==◌, bit_and, nat_eq, true, false, Bool, cond, not, ◌&&◌, List, ◌∷◌, length, Some, None, nat_le, nat_lt, slice_index, refl}
+use Rattle.std.proofs.Common.{sym, ap, subst, ◌∙◌, add-one, arith}
 use Rattle.std.proofs.lemmas.Nat.{and_mask, mul-le}
 use Rattle.std.proofs.lemmas.Bool.{and_parts, leb-true, ltb-true, lt-ltb, ltb-false, not-true, not-false, cond_both}
 use Rattle.std.proofs.lemmas.List.Sums.{fails_before_first, passes_at_first}
 use Rattle.std.specs.List.{position_or_len}
 use Rattle.tasks.specs.Bounds.{first_failing}
-use Rattle.tasks.proofs.Bounded.{below_from, passing_from, fails_at}
-use Rattle.floors.specs.Floors.{Pool, cell_count, open_cell, sides_fit, closed_place}
+use Rattle.tasks.proofs.Bounded.{below_from, passing_more, passing_from, fails_at}
+use Rattle.floors.specs.Floors.{Pool, cell_count, open_cell, sides_fit, place_cell, closed_place}
 
 pub record Sides (p : Pool) : Type 0 where
   pub some_wide : 1 ≤ p.wide
@@ -35,6 +35,30 @@ open_by_bit p c h =
 
 pub open_within : (p : Pool) (c : ℕ) → open_cell p c ≡ true → c < cell_count p
 open_within p c h = ltb-true c (cell_count p) (and_parts (nat_lt c (cell_count p)) _ h).0
+
+-- Point i + 1, as it is read of a list ys of the points, where the start and the points before it are open.
+module _ (p : Pool) (ys : List ℕ) (i : ℕ) (same : ys ≡ p.points) where
+  at_point : place_cell p (i + 1) ≡ slice_index ys i
+  at_point = ap (place_cell p) (add-one i) ∙ ap (λ zs. slice_index zs i) (sym same)
+
+  pub closed_more : first_failing (i + 1) (λ k. open_cell p (place_cell p k)) ≡ None → true ≡ open_cell p (slice_index ys i) → first_failing (i + 1 + 1) (λ k. open_cell p (place_cell p k)) ≡ None
+  closed_more h unblocked = passing_more (λ k. open_cell p (place_cell p k)) (i + 1) h (ap (open_cell p) at_point ∙ sym unblocked)
+
+  pub closed_found : i < length ys → first_failing (i + 1) (λ k. open_cell p (place_cell p k)) ≡ None → false ≡ open_cell p (slice_index ys i) → Some (i + 1) ≡ closed_place p
+  closed_found lt h shut =
+      sym (fails_at (λ k. open_cell p (place_cell p k)) (suc (length p.points)) (i + 1) (omega (arith, ap length same)) h (ap (open_cell p) at_point ∙ sym shut))
+
+  pub closed_none : length ys ≤ i → i ≤ length ys → first_failing (i + 1) (λ k. open_cell p (place_cell p k)) ≡ None → None ≡ closed_place p
+  closed_none past within h =
+      let all : i + 1 ≡ suc (length p.points) = omega (arith, ap length same) in
+      sym (subst (λ n. first_failing n (λ k. open_cell p (place_cell p k)) ≡ None) all h)
+
+-- the start is place 0
+pub start_closed : (p : Pool) → open_cell p p.start ≡ false → Some 0 ≡ closed_place p
+start_closed p shut = sym (fails_at (λ k. open_cell p (place_cell p k)) (suc (length p.points)) 0 (omega arith) refl shut)
+
+pub start_passes : (p : Pool) → open_cell p p.start ≡ true → first_failing (0 + 1) (λ k. open_cell p (place_cell p k)) ≡ None
+start_passes p unblocked = passing_more (λ k. open_cell p (place_cell p k)) 0 refl unblocked
 
 module _ (p : Pool) (cells : List ℕ) where
   abbrev passes : ℕ → Bool

@@ -1,6 +1,6 @@
 // The cells of a floor: how many there are, which are open, and which lie side by side.
 ghost use Rattle.std.specs.Prelude.{◌≡◌, ◌<◌, ◌≤◌, true};
-ghost use Rattle.floors.specs.Floors.{pool_of, cell_count, open_cell, neighbour_of, sides_fit, closed_place};
+ghost use Rattle.floors.specs.Floors.{pool_of, cell_count, open_cell, heading, neighbour_of, sides_fit, closed_place};
 
 use crate::survey::Survey;
 use std::iter;
@@ -14,13 +14,17 @@ pub(crate) enum Direction {
 }
 
 impl Direction {
-    // The directions of the moves from a cell, in turn.
-    pub(crate) const ALL: [Direction; 4] = [
-        Direction::North,
-        Direction::East,
-        Direction::South,
-        Direction::West,
-    ];
+    // The direction of the move of this number from a cell, of four.
+    pub(crate) fn of(number: u16) -> Direction
+        ensures { result ≡ heading number }
+    {
+        match number {
+            0 => Direction::North,
+            1 => Direction::East,
+            2 => Direction::South,
+            _ => Direction::West,
+        }
+    }
 }
 
 // A survey whose sides are 1 to 8.

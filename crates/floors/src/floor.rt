@@ -74,7 +74,7 @@ impl Floor {
     {
         let moves = 4 * u16::from(self.cells().count());
         if action < moves {
-            self.crossing((action / 4) as u8, Direction::ALL[usize::from(action % 4)])
+            self.crossing((action / 4) as u8, Direction::of(action % 4))
         } else {
             self.sample(usize::from(action - moves))
         }

@@ -1,14 +1,14 @@
 -- What the facts of a file give to a variable, and where an accepted file has room.
-use Rattle.std.proofs.Common.{◌≡◌, ℕ, zero, suc, ◌≤◌, Bool, true, false, cond, eqb, ltb, List, [], ◌∷◌, ◌++◌, length, map, Some, None, Option, sym, refl, ap, ap₂, subst, ◌∙◌, arith, add-one}
+use Rattle.std.proofs.Common.{◌≡◌, ℕ, zero, suc, ◌+◌, ◌≤◌, Bool, true, false, cond, eqb, ltb, List, [], ◌∷◌, ◌++◌, length, map, Some, None, Option, sym, refl, ap, ap₂, subst, ◌∙◌, arith, add-one}
 use Rattle.std.specs.List.{find, range_with_len}
 use Rattle.std.specs.Option.{IfSome, option_map, option_or}
-use Rattle.std.proofs.lemmas.Bool.{ltb-true, cond_both}
+use Rattle.std.proofs.lemmas.Bool.{ltb-true, cond-false, cond_both, ne_eqb}
 use Rattle.std.proofs.lemmas.List.Folds.{find-append}
 use Rattle.std.proofs.lemmas.List.FromFn.{map-range_with_len_more}
 use Rattle.packed.specs.Records.{fact_variable, fact_value}
-use Rattle.packed.specs.Decoding.{fact_record, looked_up, actions, action_at, past_action}
+use Rattle.packed.specs.Decoding.{fact_for, fact_record, looked_up, actions, action_at, past_action}
 use Rattle.packed.specs.Accepted.{Accepted}
-use Rattle.tasks.proofs.Firsts.{or_else}
+use Rattle.tasks.proofs.Firsts.{or_else, none_more}
 
 joined : (h : ℕ → ℕ) (o q : Option ℕ) → option_map h (option_or o q) ≡ or_else (option_map h o) (option_map h q)
 joined h (Some x) q = refl
@@ -35,3 +35,8 @@ pub place_inside : (bs : List ℕ) → Accepted bs → (a : ℕ) (o : Option ℕ
 place_inside bs h a o e =
     subst (λ (q : Option ℕ). IfSome q (λ p. past_action bs p ≤ length bs)) (sym e)
     (cond_both (ltb a (actions bs)) (Some (action_at bs a)) None (λ q. IfSome q (λ p. past_action bs p ≤ length bs)) (λ t. (h.action a (ltb-true a (actions bs) t)).past) (λ f. tt))
+
+-- a fact of another variable gives none
+pub other_fact : (bs : List ℕ) (place k v bits : ℕ) → looked_up bs place k v ≡ None → bits ≡ fact_record bs place k → (fact_variable bits ≡ v → ⊥) → looked_up bs place (k + 1) v ≡ None
+other_fact bs place k v bits so_far is h =
+    none_more k (λ j. fact_for v (fact_record bs place j)) so_far (ap (fact_for v) (sym is) ∙ cond-false (eqb (fact_variable bits) v) (Some (fact_value bits)) None (ne_eqb (fact_variable bits) v h))

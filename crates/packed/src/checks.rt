@@ -150,13 +150,13 @@ impl Front<'_> {
 
     // The actions, one behind the other, and that nothing is left over. Answers where their records begin, in a plain
     // array, a form that is asked for (docs/DECISIONS.md).
-    fn check_actions(&self) -> Result<[usize; 512], Refusal>
+    fn check_actions(&self) -> Result<[u32; 512], Refusal>
         ensures { MatchResult result (λ offsets. (refusal self.now.bytes.now ≡ None) × Placed self.now.bytes.now offsets) (λ e. refusal self.now.bytes.now ≡ Some e) }
     {
         let mut offsets = [0; 512];
         let mut place = Variable::place(self.header.variables());
         for action in 0..self.header.actions() {
-            offsets[usize::from(action)] = place;
+            offsets[usize::from(action)] = place as u32;
             place = self.check_action(place)?;
         }
         check_end(self.bytes, place)?;
@@ -165,7 +165,7 @@ impl Front<'_> {
 }
 
 // The whole file. Answers where the actions' records begin.
-pub fn check(bytes: &[u8]) -> Result<[usize; 512], Refusal>
+pub fn check(bytes: &[u8]) -> Result<[u32; 512], Refusal>
     ensures result { MatchResult result (λ offsets. (refusal bytes.now ≡ None) × Placed bytes.now offsets) (λ e. refusal bytes.now ≡ Some e) }
     ensures law { PackingDecides bytes.now (opened bytes.now) }
 {

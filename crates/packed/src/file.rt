@@ -9,7 +9,7 @@ pub mod questions;
 #[derive(Drop)]
 pub struct File {
     bytes: Vec<u8>,
-    offsets: [usize; 512],
+    offsets: [u32; 512],
     ghost accepted: { is_some (refusal bytes.items) ≡ false },
     ghost placed: { (a : ℕ) → a < actions bytes.items → slice_index offsets a ≡ action_at bytes.items a },
 }

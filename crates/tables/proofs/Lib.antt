@@ -1,5 +1,7 @@
+pub mod Reading
 pub mod Alike
 pub mod Writes
+pub mod Sweeping
 pub mod Retiring
 pub mod Dropping
 pub mod Renaming

@@ -60,15 +60,18 @@ nothing_renamed x y b o e = subst (λ (k : Option ℕ). cond b (rename_to x y k)
     both true = refl
     both false = refl
 
+pub none_renamed : (v x y : ℕ) → ActionRenamed v x y None None
+none_renamed v x y = record {
+  live = refl;
+  price = refl;
+  preconditions = λ w. sym (nothing_renamed x y (eqb w v) None refl);
+  effects = λ w. sym (nothing_renamed x y (eqb w v) None refl);
+}
+
 -- the rows of the actions are renamed, each of them
 pub every_renamed : (v x y : ℕ) (before after : List (Option Action)) → length before ≡ 512 → length after ≡ 512 → ((a : ℕ) → a < 512 → ActionRenamed v x y (get_or before a None) (get_or after a None)) → (a : ℕ) → ActionRenamed v x y (get_or before a None) (get_or after a None)
 every_renamed v x y before after long also h a =
     ⊎_elim (h a)
     (λ l. subst (λ (o : Option Action). ActionRenamed v x y o (get_or after a None)) (sym (get_or_past before a None (omega arith)))
-    (subst (ActionRenamed v x y None) (sym (get_or_past after a None (omega arith))) (record {
-      live = refl;
-      price = refl;
-      preconditions = λ w. sym (nothing_renamed x y (eqb w v) None refl);
-      effects = λ w. sym (nothing_renamed x y (eqb w v) None refl);
-    })))
+    (subst (ActionRenamed v x y None) (sym (get_or_past after a None (omega arith))) (none_renamed v x y)))
     (cases_lt a 512)

@@ -1,13 +1,16 @@
 -- Rows of which some are retired.
-use Rattle.std.proofs.Common.{◌||◌, sym, ap₂, ◌≡◌, ℕ, Bool, true, false, cond, not, ◌&&◌, eqb, is_some, get_or, set, Some, None, Option, refl, ap, ◌∙◌}
+use Rattle.std.proofs.Common.{◌+◌, ◌≤◌, ◌||◌, sym, ap₂, ◌≡◌, ℕ, Bool, true, false, cond, not, ◌&&◌, eqb, ltb, List, length, is_some, get_or, set, Some, None, Option, refl, ap, ◌∙◌, arith}
+use Rattle.std.proofs.lemmas.List.{get_or_past}
+use Rattle.std.proofs.lemmas.Bool.Decides.{nat_tests}
 use mathlib.Core.Path.{fun_ext}
 use Rattle.tasks.specs.Task.{Priced}
+use Rattle.detours.specs.Free.{is_free}
 use Rattle.reductions.specs.Applying.{every}
 use Rattle.tables.specs.declared.rows.Domain.{Domain}
 use Rattle.tables.specs.declared.rows.Variable.{Variable}
 use Rattle.tables.specs.declared.rows.Action.{Action}
 use Rattle.tables.specs.declared.rows.Rows.{Rows}
-use Rattle.tables.specs.Tabled.{absent, variable_in, action_in, value_of, initial_of, goal_of, required, set_by, price_of, priced_of, tabled, retired}
+use Rattle.tables.specs.Tabled.{absent, variable_in, action_in, value_of, initial_of, goal_of, required, set_by, price_of, priced_of, task_in, tabled, retired}
 use Rattle.tables.proofs.Alike.{alike}
 use Rattle.tables.proofs.Writes.{changed}
 
@@ -147,3 +150,55 @@ pub actions_and_variable : (r s : Rows) (keeps : ℕ → Bool) (v : ℕ) → s.v
 actions_and_variable r s keeps v vars acts same kept =
     ap (λ (p : Priced). retired p every (λ w. not (eqb w v))) ((λ i. priced_of (vars i) (acts i) (variable_in s) (action_in s)) ∙ retired_as r.variable_count r.action_count (variable_in r) (action_in r) keeps every _ _ same kept)
     ∙ retired_by (tabled r) keeps every every (λ w. not (eqb w v)) keeps (λ w. not (eqb w v)) (λ a. sym (and_true (keeps a))) (λ w. refl)
+
+-- an action that is not live is not free
+pub absent_not_free : (r : Rows) (v a : ℕ) → action_in r a ≡ None → is_free (task_in r) v a ≡ false
+absent_not_free r v a e = rw e
+
+-- the actions that stay once those chosen below n are retired
+pub spared : List Bool → ℕ → ℕ → Bool
+spared chosen n a = not (ltb a n && get_or chosen a false)
+
+-- where every one stays, the task stays
+same_retired : (p : Priced) → p ≡ retired p every every
+same_retired p = alike p (retired p every every) (record {
+  vars = refl;
+  acts = refl;
+  size = λ v. refl;
+  var_live = λ v. and_true (p.task.var_live v);
+  val_live = λ v x. and_true (p.task.val_live v x);
+  act_live = λ a. and_true (p.task.act_live a);
+  pre = λ a v. refl;
+  eff = λ a v. refl;
+  init = λ v. refl;
+  goal = λ v. refl;
+}) (λ a. refl)
+
+module _ (p : Priced) (chosen : List Bool) where
+  pub none_retired : p ≡ retired p (spared chosen 0) every
+  unfolding spared
+  none_retired = same_retired p ∙ ap (λ (f : ℕ → Bool). retired p f every) (fun_ext (λ a. stays a (get_or chosen a false)))
+    where
+      stays : (a : ℕ) (b : Bool) → true ≡ not (ltb a 0 && b)
+      stays a b = grind (arith, nat_tests)
+
+  pub one_retired : (n : ℕ) → get_or chosen n false ≡ true → retired (retired p (spared chosen n) every) (λ a. not (eqb a n)) every ≡ retired p (spared chosen (n + 1)) every
+  unfolding spared
+  one_retired n is = retired_by p (spared chosen n) every (λ a. not (eqb a n)) every (spared chosen (n + 1)) every (λ a. more a (get_or chosen a false) (λ e. ap (λ (k : ℕ). get_or chosen k false) e ∙ is)) (λ v. refl)
+    where
+      more : (a : ℕ) (b : Bool) → (a ≡ n → b ≡ true) → (not (ltb a n && b) && not (eqb a n)) ≡ not (ltb a (n + 1) && b)
+      more a b h = grind (arith, nat_tests)
+
+  pub one_spared : (n : ℕ) → get_or chosen n false ≡ false → retired p (spared chosen n) every ≡ retired p (spared chosen (n + 1)) every
+  unfolding spared
+  one_spared n is = ap (λ (f : ℕ → Bool). retired p f every) (fun_ext (λ a. more a (get_or chosen a false) (λ e. ap (λ (k : ℕ). get_or chosen k false) e ∙ is)))
+    where
+      more : (a : ℕ) (b : Bool) → (a ≡ n → b ≡ false) → not (ltb a n && b) ≡ not (ltb a (n + 1) && b)
+      more a b h = grind (arith, nat_tests)
+
+  pub all_retired : (n : ℕ) → length chosen ≤ n → retired p (spared chosen n) every ≡ retired p (λ a. not (get_or chosen a false)) every
+  unfolding spared
+  all_retired n long = ap (λ (f : ℕ → Bool). retired p f every) (fun_ext (λ a. whole a (get_or chosen a false) (λ past. get_or_past chosen a false (omega arith))))
+    where
+      whole : (a : ℕ) (b : Bool) → (n ≤ a → b ≡ false) → not (ltb a n && b) ≡ not b
+      whole a b h = grind (arith, nat_tests)

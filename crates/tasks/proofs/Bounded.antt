@@ -2,7 +2,7 @@
 use Rattle.std.proofs.Common.{◌≡◌, ℕ, zero, suc, ◌+◌, ◌<◌, Bool, true, false, cond, Some, None, Option, sym, refl, ◌∙◌, subst, ⊎_elim, add-one, arith}
 use Rattle.std.proofs.lemmas.Bool.{and_parts, and_from, and_left, and_right, cases_eq, cases_Bool, cond-true, cond-false}
 use Rattle.tasks.specs.Bounds.{all_below, first_failing}
-use Rattle.tasks.proofs.Firsts.{none_at, none_from, some_at}
+use Rattle.tasks.proofs.Firsts.{none_at, none_from, none_more, some_at}
 
 pub below_at : (n : ℕ) (p : ℕ → Bool) → all_below n p ≡ true → (v : ℕ) → v < n → p v ≡ true
 below_at zero p h v l = absurd (omega arith)
@@ -30,6 +30,10 @@ below_more n p h e = subst (λ (k : ℕ). all_below k p ≡ true) (sym (add-one 
 module _ (p : ℕ → Bool) where
   found : ℕ → Option ℕ
   found k = cond (p k) None (Some k)
+
+  pub passing_more : (n : ℕ) → first_failing n p ≡ None → p n ≡ true → first_failing (n + 1) p ≡ None
+  unfolding found
+  passing_more n h e = none_more n found h (cond-true (p n) None (Some n) e)
 
   pub fails_at : (n k : ℕ) → k < n → first_failing k p ≡ None → p k ≡ false → first_failing n p ≡ Some k
   unfolding found

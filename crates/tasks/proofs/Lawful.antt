@@ -75,6 +75,9 @@ module _ (t : Task) (law : Lawful t) where
   init_past v l = let few = law.few_vars in law.init_none v (var_past v (omega arith))
 
   -- a state is known by its values in range
+  pub init_by : (s : State) → ((k : ℕ) → k < 32 → s k ≡ t.init k) → ((k : ℕ) → 32 ≤ k → s k ≡ 0) → s ≡ t.init
+  init_by s low high = fun_ext {f = s} {g = t.init} (λ k. ⊎_elim (low k) (λ l. high k l ∙ sym (init_past k l)) (cases_lt k 32))
+
   pub after_by : (s u : State) (a : ℕ) → ((k : ℕ) → k < t.vars → u k ≡ after t s a k) → ((k : ℕ) → t.vars ≤ k → u k ≡ s k) → u ≡ after t s a
   after_by s u a low high = fun_ext {f = u} {g = after t s a} (λ k. ⊎_elim (low k) (λ l. high k l ∙ sym (over_none (t.eff a k) (s k) (eff_past a k l))) (cases_lt k t.vars))
 

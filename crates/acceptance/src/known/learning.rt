@@ -41,10 +41,19 @@ impl Known {
         })
     }
 
-    // What the action sets is known then.
+    // What is known of a variable once it is set, if it is.
+    fn after(&self, variable: u8, set: Option<u8>) -> Option<u8>
+        ensures { result ≡ overridden set (knows self.now variable) }
+    {
+        set.or(self.value(variable))
+    }
+
+    // What the action sets is known then, variable by variable: an array that is made anew would ask for all 32.
     pub fn learn<T: Task>(&mut self, task: &T, action: u16)
         ensures { knows self.new ≡ (λ w. overridden ((T.meant task.now).eff action w) (knows self.old w)) }
     {
-        self.values = array::from_fn(|v| task.effect(action, v as u8).or(self.values[v]));
+        for v in 0..task.variables() {
+            self.values[usize::from(v)] = self.after(v, task.effect(action, v));
+        }
     }
 }

@@ -30,7 +30,7 @@ impl File {
         ensures inside { IfSome result (λ p. past_action (contents self.now) p ≤ vec_len self.now.bytes) }
     {
         let offset = self.offsets.get(usize::from(action)).copied()?;
-        (action < self.header().actions()).then_some(offset)
+        (action < self.header().actions()).then_some(offset as usize)
     }
 
     // The record of an action, if there is one of that number.

@@ -1,5 +1,5 @@
 // Rows in which a variable or an action is retired, or an action requires less.
-ghost use Rattle.std.specs.Prelude.{◌≡◌, ℕ, ◌<◌, Bool, not, ◌==◌};
+ghost use Rattle.std.specs.Prelude.{◌≡◌, ℕ, ◌<◌, Bool, false, not, ◌==◌, slice_index_or};
 ghost use Rattle.reductions.specs.Applying.{precondition_dropped, every};
 ghost use Rattle.tables.specs.Tabled.{task_in, tabled, retired, at_prices};
 
@@ -19,6 +19,16 @@ impl Rows {
         ensures { tabled self.new ≡ retired (tabled self.old) (λ a. not (a == action)) every }
     {
         self.actions[usize::from(action)] = None;
+    }
+
+    pub(crate) fn retire_actions(&mut self, chosen: &[bool; 512])
+        ensures { tabled self.new ≡ retired (tabled self.old) (λ a. not (slice_index_or chosen.now a false)) every }
+    {
+        for action in 0..512 {
+            if chosen[usize::from(action)] {
+                self.retire_action(action);
+            }
+        }
     }
 
     // The action requires no value of the variable any more.

@@ -30,17 +30,13 @@ impl Renaming {
         value.map(|named| self.name(named))
     }
 
-    // A value for each variable, of which one has its value renamed.
-    fn facts(self, row: [Option<u8>; 32]) -> [Option<u8>; 32]
-        ensures { (w : ℕ) → slice_index_or result w None ≡ (if w == self.variable then rename_to self.from self.to (slice_index_or row w None) else slice_index_or row w None) }
+    // One entry is written: the others name values of other variables.
+    fn rename_fact(self, facts: &mut [Option<u8>; 32])
+        requires { self.variable < 32 }
+        ensures { (w : ℕ) → slice_index_or facts.new w None ≡ (if w == self.variable then rename_to self.from self.to (slice_index_or facts.old w None) else slice_index_or facts.old w None) }
     {
-        array::from_fn(|v| {
-            if v == usize::from(self.variable) {
-                self.mention(row[v])
-            } else {
-                row[v]
-            }
-        })
+        let v = usize::from(self.variable);
+        facts[v] = self.mention(facts[v]);
     }
 
     // The value is retired, and what named it names the other.
@@ -67,26 +63,24 @@ impl Renaming {
         }
     }
 
-    fn action_row(self, old: &Option<Action>) -> Option<Action>
-        ensures { ActionRenamed self.variable self.from self.to old.now result }
+    fn rename_action(self, action: &mut Option<Action>)
+        requires { self.variable < 32 }
+        ensures { ActionRenamed self.variable self.from self.to action.old action.new }
     {
-        let old = old.as_ref()?;
-        Some(Action {
-            price: old.price,
-            preconditions: self.facts(old.preconditions),
-            effects: self.facts(old.effects),
-        })
+        if let Some(row) = action {
+            self.rename_fact(&mut row.preconditions);
+            self.rename_fact(&mut row.effects);
+        }
     }
 
-    fn action_rows(self, old: &[Option<Action>; 512]) -> [Option<Action>; 512]
-        ensures { (a : ℕ) → ActionRenamed self.variable self.from self.to (slice_index_or old.now a None) (slice_index_or result a None) }
+    // In place, since the rows are large.
+    fn rename_actions(self, actions: &mut [Option<Action>; 512])
+        requires { self.variable < 32 }
+        ensures { (a : ℕ) → ActionRenamed self.variable self.from self.to (slice_index_or actions.old a None) (slice_index_or actions.new a None) }
     {
-        array::from_fn(
-            |a|
-                requires { a < 512 }
-                ensures { ActionRenamed self.variable self.from self.to (slice_index_or old.entry.now a None) result }
-            { self.action_row(&old[a]) },
-        )
+        for action in actions {
+            self.rename_action(action);
+        }
     }
 }
 
@@ -98,6 +92,6 @@ impl Rows {
     {
         let v = usize::from(renaming.variable);
         self.variables[v] = renaming.variable_row(self.variables[v]);
-        self.actions = renaming.action_rows(&self.actions);
+        renaming.rename_actions(&mut self.actions);
     }
 }

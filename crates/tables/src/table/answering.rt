@@ -63,16 +63,18 @@ impl Task for Table {
     }
 
     fn precondition(&self, action: u16, variable: u8) -> Option<u8> {
-        self.domain(variable)?;
-        *self
+        let required = *self
             .action(action)?
             .preconditions
-            .get(usize::from(variable))?
+            .get(usize::from(variable))?;
+        self.domain(variable)?;
+        required
     }
 
     fn effect(&self, action: u16, variable: u8) -> Option<u8> {
+        let set = *self.action(action)?.effects.get(usize::from(variable))?;
         self.domain(variable)?;
-        *self.action(action)?.effects.get(usize::from(variable))?
+        set
     }
 
     fn initial(&self, variable: u8) -> u8 {

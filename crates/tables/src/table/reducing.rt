@@ -1,14 +1,15 @@
 // A table takes a step, or refuses it.
-ghost use Rattle.std.specs.Prelude.{◌≡◌, ℕ, ◌<◌, not, true, if◌then◌else◌, None, slice_index_or};
+ghost use Rattle.std.specs.Prelude.{◌≡◌, ℕ, ◌<◌, true, false, slice_index_or};
 ghost use Rattle.detours.specs.Free.{is_free as free_in};
 ghost use Rattle.reductions.specs.Acceptance.{accepted};
 ghost use Rattle.reductions.specs.Applying.{applied};
 ghost use Rattle.reductions.specs.Named.{merge_of, generalise_of, step_of};
+ghost use Rattle.reductions.specs.Steps.{abstract as abstract_step};
 ghost use Rattle.tables.specs.Reducing.{refused_by, reduced_by};
-ghost use Rattle.tables.specs.Tabled.{task_in, action_in, tabled};
+ghost use Rattle.tables.specs.Tabled.{task_in, tabled};
 
+use crate::rows::Rows;
 use crate::rows::renaming::Renaming;
-use crate::rows::{Action, Rows};
 use crate::table::Table;
 use acceptance::accept;
 use detours::edges::is_free;
@@ -39,45 +40,42 @@ impl Rows {
         self.drop_precondition(step.action, step.variable);
         self.retire_action(step.twin);
     }
+
+    // A variable retired with its free actions, told beforehand: what is free depends on the live variables.
+    fn abstract_variable(&mut self, variable: u8, free: &[bool; 512])
+        requires in_range { variable < 32 }
+        requires free { (a : ℕ) → slice_index_or free.now a false ≡ free_in (task_in self.old) variable a }
+        ensures { tabled self.new ≡ applied (tabled self.old) (abstract_step variable) }
+    {
+        self.retire_actions(free);
+        self.retire_variable(variable);
+    }
 }
 
 impl Table {
-    // The actions that stay when the free ones of a variable are retired.
-    fn actions_unless_free(&self, variable: u8) -> [Option<Action>; 512]
-        ensures { (a : ℕ) → slice_index_or result a None ≡ (if not (free_in (task_in self.now.rows) variable a) then action_in self.now.rows a else None) }
+    // Which actions are free for a variable.
+    fn free_actions(&self, variable: u8) -> [bool; 512]
+        ensures { (a : ℕ) → slice_index_or result a false ≡ free_in (task_in self.now.rows) variable a }
     {
-        array::from_fn(
-            |a|
-                requires { a < 512 }
-                ensures { result ≡ (if not (free_in (task_in self.entry.now.rows) variable a) then action_in self.entry.now.rows a else None) }
-            {
-                if is_free(self, variable, a as u16) {
-                    None
-                } else {
-                    self.rows.actions[a]
-                }
-            },
-        )
+        array::from_fn(|a| is_free(self, variable, a as u16))
     }
 
-    // The rows after a step that is accepted.
-    fn after(&self, step: &Step) -> Rows
-        requires { accepted (tabled self.now.rows) (step_of step.now) ≡ true }
-        ensures { tabled result ≡ applied (tabled self.now.rows) (step_of step.now) }
+    // An accepted step, in place.
+    fn apply(&mut self, step: &Step)
+        requires { accepted (tabled self.old.rows) (step_of step.now) ≡ true }
+        ensures { tabled self.new.rows ≡ applied (tabled self.old.rows) (step_of step.now) }
     {
-        let mut rows = self.rows;
         // a step is plain data, of which a table is to be kept: so its kind is matched
         match *step {
-            Step::Merge(step) => rows.merge(step),
-            Step::Generalise(step) => rows.generalise(step),
-            Step::Variable { variable } => rows.retire_variable(variable),
-            Step::Action { action, .. } => rows.retire_action(action),
+            Step::Merge(step) => self.rows.merge(step),
+            Step::Generalise(step) => self.rows.generalise(step),
+            Step::Variable { variable } => self.rows.retire_variable(variable),
+            Step::Action { action, .. } => self.rows.retire_action(action),
             Step::Abstract { variable } => {
-                rows.actions = self.actions_unless_free(variable);
-                rows.retire_variable(variable);
+                let free = self.free_actions(variable);
+                self.rows.abstract_variable(variable, &free);
             }
         }
-        rows
     }
 
     // Takes a step where so many stand: refused where 128 do, then as the step is. A refused step leaves the table alone.
@@ -89,7 +87,7 @@ impl Table {
             return Err(Cause::PileFull.at(0));
         }
         accept(self, step)?;
-        self.rows = self.after(step);
+        self.apply(step);
         Ok(())
     }
 }
